@@ -1,3 +1,4 @@
 pub mod Search
 pub mod Sums
 pub mod Settled
+pub mod Unique
