@@ -1,3 +1,6 @@
 pub mod Total
 pub mod Problem
 pub mod Fairness
+pub mod Entitlement
+pub mod Divisor
+pub mod Product
