@@ -6,3 +6,4 @@ pub mod Entitlement
 pub mod Divisors
 pub mod LeastBase
 pub mod ProductBound
+pub mod Round

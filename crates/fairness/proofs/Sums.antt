@@ -67,6 +67,14 @@ pub total-le : (n : ℕ) (inSet : ℕ → Bool) (x y : ℕ → ℕ) (k j : ℕ)
 total-le n inSet x y k j h =
     let l = total-linear n inSet x x y y k 0 j 0 (λ i hi m. let hm = h i hi m in omega arith) in omega arith
 
+-- The same of an equation.
+pub total-equal : (n : ℕ) (inSet : ℕ → Bool) (x y z : ℕ → ℕ) (k j i : ℕ)
+    → ((c : ℕ) → c < n → inSet c ≡ true → x c * k ≡ y c * j + z c * i) → total n inSet x * k ≡ total n inSet y * j + total n inSet z * i
+total-equal n inSet x y z k j i h =
+    let up = total-linear n inSet x x y z k 0 j i (λ c hc m. let e = h c hc m in omega arith) in
+    let down = total-linear n inSet y z x x j i k 0 (λ c hc m. let e = h c hc m in omega arith) in
+    omega arith
+
 one-times : (x : ℕ → ℕ) (f c : ℕ) → one f c * x f ≤ x c * 1
 one-times x f c = go (eq-or-not c f)
   where

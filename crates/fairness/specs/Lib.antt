@@ -4,3 +4,5 @@ pub mod Fairness
 pub mod Entitlement
 pub mod Divisor
 pub mod Product
+pub mod Filling
+pub mod Round
