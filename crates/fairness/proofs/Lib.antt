@@ -7,3 +7,6 @@ pub mod Divisors
 pub mod LeastBase
 pub mod ProductBound
 pub mod Round
+pub mod Lists
+pub mod Lowest
+pub mod Counted

@@ -87,3 +87,9 @@ member-le-total n inSet x f h m =
     let l = total-le n inSet (one f) x (x f) 1 (λ c hc mc. one-times x f c) in
     let e = ap (λ k. k * x f) (total-one n inSet f h m) in
     omega arith
+
+-- A sum over a set is a sum over all flows of what the set lets through.
+pub total-on : (n : ℕ) (inSet : ℕ → Bool) (x : ℕ → ℕ) → total n (λ c. true) (λ c. on (inSet c) (x c)) ≡ total n inSet x
+unfolding total
+total-on zero inSet x = refl
+total-on (suc n) inSet x = rw (total-on n inSet x)
