@@ -10,3 +10,5 @@ pub mod Round
 pub mod Lists
 pub mod Lowest
 pub mod Counted
+pub mod Start
+pub mod Steps
