@@ -12,3 +12,4 @@ pub mod Lowest
 pub mod Counted
 pub mod Start
 pub mod Steps
+pub mod Filling

@@ -16,10 +16,10 @@ abbrev pub Below : Next → Next → Type 0
 Below a b = a .high * b .parts ≤ b .high * a .parts
 
 -- a level, or higher than every level, but not 0 over 0
-abbrev Proper : Next → Type 0
+abbrev pub Proper : Next → Type 0
 Proper e = (0 < e .high) ⊎ (0 < e .parts)
 
-below-trans : (a b c : Next) → Proper b → Below a b → Below b c → Below a c
+pub below-trans : (a b c : Next) → Proper b → Below a b → Below b c → Below a c
 below-trans a b c proper h l = go (eq-zero-or-pos (b .parts)) proper
   where
     cut : 0 < b .parts → Below a c

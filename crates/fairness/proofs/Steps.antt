@@ -35,19 +35,21 @@ work-falls P s t each f hf less =
     go c hc (inl e) = rw (e, one-self f) (omega arith)
     go c hc (inr n) = rw (one-other f c n) (omega (arith, each c hc))
 
+-- A flow that does not meet its demand is not above it at the level.
+pub below-demand : (P : Problem) (s : State) (e : Next) (c : ℕ) → meets P s e c ≡ false
+    → e .high * cells (s .rising) c ≤ P .demand c * s .base * e .parts
+below-demand P s e c f = go (eq-zero-or-pos (cells (s .rising) c))
+  where
+    go : (cells (s .rising) c ≡ 0) ⊎ (0 < cells (s .rising) c)
+        → e .high * cells (s .rising) c ≤ P .demand c * s .base * e .parts
+    go (inl z) = rw (z, mul-zero) (omega arith)
+    go (inr pos) =
+        let t : leb (P .demand c * s .base * e .parts) (e .high * cells (s .rising) c) ≡ false =
+            rw (lt-ltb 0 (cells (s .rising) c) pos) at f in
+        le-of-lt (leb-false _ _ t)
+
 -- Flows that meet their demands stop.
 module _ (P : Problem) (s : State) (e : Next) (p q : ℕ) (now : Underway P s p q) where
-  below-demand : (c : ℕ) → meets P s e c ≡ false → e .high * cells (s .rising) c ≤ P .demand c * s .base * e .parts
-  below-demand c f = go (eq-zero-or-pos (cells (s .rising) c))
-    where
-      go : (cells (s .rising) c ≡ 0) ⊎ (0 < cells (s .rising) c)
-          → e .high * cells (s .rising) c ≤ P .demand c * s .base * e .parts
-      go (inl z) = rw (z, mul-zero) (omega arith)
-      go (inr pos) =
-          let t : leb (P .demand c * s .base * e .parts) (e .high * cells (s .rising) c) ≡ false =
-              rw (lt-ltb 0 (cells (s .rising) c) pos) at f in
-          le-of-lt (leb-false _ _ t)
-
   calm-of-rising : (c : ℕ) → 0 < cells (s .rising) c → Stage P s p q c → cells (s .waiting) c ≡ 0
   calm-of-rising c pos (rises r) = r .calm
   calm-of-rising c pos (waits w) = absurd (omega (arith, w .still))
@@ -69,7 +71,7 @@ module _ (P : Problem) (s : State) (e : Next) (p q : ℕ) (now : Underway P s p 
         let pos = ltb-true 0 (cells (s .rising) c) (tests .0) in
         met pos (leb-true _ _ (tests .1)) (rising-met ∙ rw t) (calm-of-rising c pos (now .stage c hc))
         (fixed-met ∙ rw t (omega arith))
-    moved-met (inr f) = kept (rising-met ∙ rw f) refl (fixed-met ∙ rw f (omega arith)) (below-demand c f)
+    moved-met (inr f) = kept (rising-met ∙ rw f) refl (fixed-met ∙ rw f (omega arith)) (below-demand P s e c f)
 
     todo-met : (meets P s e c ≡ true) ⊎ (meets P s e c ≡ false) → todo (stopMet P s e) c ≤ todo s c
     unfolding stopMet
