@@ -48,15 +48,15 @@ counted-same P s₀ s t a k step old =
       divisors = old .divisors;
       base = omega (arith, step .base, old .base);
       few =
-        let sums =
-            total-le (P .limits) (λ l. true) (λ l. on (isOpen P t l) 1) (λ l. on (isOpen P s l) 1) 1 1
-            (λ l hl e. omega (arith, on-one (isOpen P t l) (isOpen P s l) (open-before P s t a k 1 step l))) in
-        omega (arith, old .few);
+          let sums =
+          total-le (P .limits) (λ l. true) (λ l. on (isOpen P t l) 1) (λ l. on (isOpen P s l) 1) 1 1
+          (λ l hl e. omega (arith, on-one (isOpen P t l) (isOpen P s l) (open-before P s t a k 1 step l))) in
+          omega (arith, old .few);
       small =
-        let sums =
-            total-le (P .flows) (λ c. true) (live t) (live s) 1 1
-            (λ c hc e. omega (arith, fewer P s t a k 1 step c hc (step .moved c hc))) in
-        omega (arith, old .small)
+          let sums =
+          total-le (P .flows) (λ c. true) (live t) (live s) 1 1
+          (λ c hc e. omega (arith, fewer P s t a k 1 step c hc (step .moved c hc))) in
+          omega (arith, old .small);
     }
 
 -- a limit that shuts gives the weights that rose through it as a divisor
@@ -69,9 +69,10 @@ module _ (P : Problem) (s₀ s t : State) (a k l : ℕ) (pos : 0 < k) (parts : k
       none : across P l (live t) ≤ 0
       none =
           let sums =
-              total-le (P .flows) (P .through l) (live t) (live t) 1 0
-              (λ c hc e. rw (shutting .idle c hc e .0, shutting .idle c hc e .1) (omega arith)) in
+          total-le (P .flows) (P .through l) (live t) (live t) 1 0
+          (λ c hc e. rw (shutting .idle c hc e .0, shutting .idle c hc e .1) (omega arith)) in
           omega arith
+
       many : 0 < across P l (live s)
       many =
           let sums = total-le (P .flows) (P .through l) (cells (s .rising)) (live s) 1 1 (λ c hc e. omega arith) in
@@ -90,13 +91,13 @@ module _ (P : Problem) (s₀ s t : State) (a k l : ℕ) (pos : 0 < k) (parts : k
         divisors = k ∷ old .divisors;
         base = step .base ∙ ap (λ b. b * k) (old .base) ∙ mul-comm (product (old .divisors)) k;
         few =
-          let sums =
-              total-linear (P .limits) (λ i. true) (λ i. on (isOpen P t i) 1) (one l) (λ i. on (isOpen P s i) 1) (one l) 1 1 1 0
-              (λ i hi e. omega (arith, closes i (eq-or-not i l))) in
-          omega (arith, old .few, total-one (P .limits) (λ i. true) l (shutting .listed) refl);
+            let sums =
+            total-linear (P .limits) (λ i. true) (λ i. on (isOpen P t i) 1) (one l) (λ i. on (isOpen P s i) 1) (one l) 1 1 1 0
+            (λ i hi e. omega (arith, closes i (eq-or-not i l))) in
+            omega (arith, old .few, total-one (P .limits) (λ i. true) l (shutting .listed) refl);
         small =
-          let sums =
-              total-linear (P .flows) (λ c. true) (live t) (λ c. on (P .through l c) (cells (s .rising) c)) (live s) (live s) 1 1 1 0
-              (λ c hc e. omega (arith, stops c hc (true-or-false (P .through l c)))) in
-          omega (arith, old .small, total-on (P .flows) (P .through l) (cells (s .rising)), parts)
+            let sums =
+            total-linear (P .flows) (λ c. true) (live t) (λ c. on (P .through l c) (cells (s .rising) c)) (live s) (live s) 1 1 1 0
+            (λ c hc e. omega (arith, stops c hc (true-or-false (P .through l c)))) in
+            omega (arith, old .small, total-on (P .flows) (P .through l) (cells (s .rising)), parts);
       }

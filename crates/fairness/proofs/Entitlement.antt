@@ -29,7 +29,7 @@ module _ (P : Problem) (f d e : ℕ) (a : Allocation) (fair : Fair (asking P f d
         positive = fair .allowed .positive;
         feasible = record { room = fair .allowed .feasible .room };
         bounded =
-          record { atLeast = fair .allowed .bounded .atLeast; atMost = λ c hc. go c (fair .allowed .bounded .atMost c hc) (eq-or-not c f) }
+            record { atLeast = fair .allowed .bounded .atLeast; atMost = λ c hc. go c (fair .allowed .bounded .atMost c hc) (eq-or-not c f) };
       }
     where
       go : (c : ℕ) → a .numerator c ≤ cond (eqb c f) d (P .demand c) * a .base → (c ≡ f) ⊎ (c ≡ f → ⊥)
@@ -40,24 +40,32 @@ module _ (P : Problem) (f d e : ℕ) (a : Allocation) (fair : Fair (asking P f d
   other-settled : (c : ℕ) → SettledAt (asking P f d) a c → (c ≡ f) ⊎ (c ≡ f → ⊥) → SettledAt (asking P f e) a c
   other-settled c (inl met) (inl q) = inl (rw (eq-eqb c f q, q) (reached (rw (eq-eqb c f q, q) at met)))
   other-settled c (inl met) (inr n) = inl (rw (ne-eqb c f n) (rw (ne-eqb c f n) at met))
-  other-settled c (inr (l , hl , neck)) (inl q) = go (le-or-lt (e * a .base) (a .numerator f))
+  other-settled c (inr (l, hl, neck)) (inl q) = go (le-or-lt (e * a .base) (a .numerator f))
     where
       go : (e * a .base ≤ a .numerator f) ⊎ (a .numerator f < e * a .base) → SettledAt (asking P f e) a c
       go (inl h) = inl (rw (eq-eqb c f q, q) (le-antisymm within h))
       go (inr h) =
-          inr (l, hl, record {
+          inr (
+            l,
+            hl,
+            record {
               passes = neck .passes;
               below = rw (eq-eqb c f q, q) h;
               full = neck .full;
-              highest = neck .highest
-            })
-  other-settled c (inr (l , hl , neck)) (inr n) =
-      inr (l, hl, record {
+              highest = neck .highest;
+            },
+          )
+  other-settled c (inr (l, hl, neck)) (inr n) =
+      inr (
+        l,
+        hl,
+        record {
           passes = neck .passes;
           below = rw (ne-eqb c f n) (rw (ne-eqb c f n) at (neck .below));
           full = neck .full;
-          highest = neck .highest
-        })
+          highest = neck .highest;
+        },
+      )
 
   fair-at-other : Fair (asking P f e) a
   fair-at-other =
@@ -73,21 +81,26 @@ entitled P weighed f hf d e le a z fairA fairZ =
   where
     top : z .numerator f ≤ e * z .base
     top = rw (eq-eqb f f refl) at (fairZ .allowed .bounded .atMost f hf)
+
     go : (a .numerator f ≤ e * a .base) ⊎ (e * a .base < a .numerator f)
         → (e * z .base ≤ z .numerator f) ⊎ (z .numerator f < e * z .base)
         → z .numerator f * a .base ≡ min (e * a .base) (a .numerator f) * z .base
     go (inl h) t =
         let same = same-of-fair (asking P f e) weighed a z (fair-at-other P f d e a fairA h
-            (λ met. le-antisymm h (omega (arith, mul-le-mul-right (a .base) le)))) fairZ in
+        (λ met. le-antisymm h (omega (arith, mul-le-mul-right (a .base) le)))) fairZ in
         rw (min-eq-right h) (sym (same .same f hf))
     go (inr h) (inl l) =
         let met : z .numerator f ≡ e * z .base = le-antisymm top l in
         rw (min-eq-left (le-of-lt h), met) (omega arith)
     go (inr h) (inr l) =
         let same = same-of-fair (asking P f d) weighed a z fairA (fair-at-other P f e d z fairZ
-            (omega (arith, mul-le-mul-right (z .base) le)) (λ met. absurd (omega arith))) in
-        absurd (omega (arith, same .same f hf, mul-lt-mul-of-pos-right l (fairA .allowed .positive),
-            mul-lt-mul-of-pos-right h (fairZ .allowed .positive)))
+        (omega (arith, mul-le-mul-right (z .base) le)) (λ met. absurd (omega arith))) in
+        absurd (omega (
+          arith,
+          same .same f hf,
+          mul-lt-mul-of-pos-right l (fairA .allowed .positive),
+          mul-lt-mul-of-pos-right h (fairZ .allowed .positive),
+        ))
 
 -- The floor. A flow that asks for at least the capacity of each of its limits, in none of which a flow has a minimum,
 -- has its weighted share of one of them. Only flows that may ask for something share it.
@@ -100,16 +113,22 @@ module _ (P : Problem) (asks : ℕ → Bool) (silent : (c : ℕ) → c < P .flow
   share-of-met : a .numerator f ≡ P .demand f * a .base → (l : ℕ) → P .through l f ≡ true → P .capacity l ≤ P .demand f → Share l
   share-of-met met l e h =
       let own = member-le-total (P .flows) (P .through l) (λ c. on (asks c) (P .weight c)) f hf e in
-      let weight : P .weight f ≤ sharing P asks l = rw asked at own in
-      (e, omega (arith, mul-le-mul-right (P .weight f * a .base) h, mul-le-mul-right (a .numerator f) weight,
-          ap (λ k. k * P .weight f) met))
+      let weight : P .weight f ≤ sharing P asks l = rw asked at own in (
+        e,
+        omega (
+          arith,
+          mul-le-mul-right (P .weight f * a .base) h,
+          mul-le-mul-right (a .numerator f) weight,
+          ap (λ k. k * P .weight f) met,
+        ),
+      )
 
   -- where a bottleneck holds f back, that one will
   share-of-bottleneck : (l : ℕ) → Bottleneck P a l f → ((g : ℕ) → g < P .flows → P .through l g ≡ true → P .minimum g ≡ 0) → Share l
   share-of-bottleneck l neck none =
       let sums =
-          total-le (P .flows) (P .through l) (a .numerator) (λ c. on (asks c) (P .weight c)) (P .weight f) (a .numerator f)
-          (λ g hg m. go g hg m (true-or-false (asks g))) in
+      total-le (P .flows) (P .through l) (a .numerator) (λ c. on (asks c) (P .weight c)) (P .weight f) (a .numerator f)
+      (λ g hg m. go g hg m (true-or-false (asks g))) in
       (neck .passes, omega (arith, ap (λ k. k * P .weight f) (neck .full)))
     where
       go : (g : ℕ) → g < P .flows → P .through l g ≡ true → (asks g ≡ true) ⊎ (asks g ≡ false)
@@ -134,4 +153,4 @@ module _ (P : Problem) (asks : ℕ → Bool) (silent : (c : ℕ) → c < P .flow
     where
       go : SettledAt P a f → (l : ℕ) × (l < P .limits) × Share l
       go (inl met) = (placed .0, placed .1, share-of-met met (placed .0) (placed .2) (wide (placed .0) (placed .2)))
-      go (inr (l , hl , neck)) = (l, hl, share-of-bottleneck l neck (none l (neck .passes)))
+      go (inr (l, hl, neck)) = (l, hl, share-of-bottleneck l neck (none l (neck .passes)))

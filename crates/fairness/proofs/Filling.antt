@@ -53,7 +53,7 @@ module _ (P : Problem) (sound : Sound P) (s : State) (at : Between P s) where
 
   room-at-next : (l : ℕ) → l < P .limits
       → across P l (cells (s .fixed)) * next P s .parts + across P l (cells (s .rising)) * next P s .high
-          ≤ P .capacity l * s .base * next P s .parts
+      ≤ P .capacity l * s .base * next P s .parts
   room-at-next l hl =
       omega (arith, below-limit l hl, ap (λ x. x * next P s .parts) (add-sub-of-le (fixed-fits l hl)))
 
@@ -88,14 +88,15 @@ module _ (P : Problem) (sound : Sound P) (s : State) (at : Between P s) where
       → some (P .flows) (meets P s (next P s)) ≡ true → Further (stopMet P s (next P s))
   met-further pos above e =
       let w = one-of-some (P .flows) (meets P s (next P s)) e in
-      let step = step-met P s (next P s) (at .p) (at .q) (at .underway) in
-      (record {
+      let step = step-met P s (next P s) (at .p) (at .q) (at .underway) in (
+        record {
           p = next P s .high * 1;
           q = next P s .parts;
           underway = underway-after P sound s _ (at .p) (at .q) _ _ 1 (at .underway) (reached pos above) step;
-          counted = counted-same P (start P) s _ _ _ step (at .counted)
+          counted = counted-same P (start P) s _ _ _ step (at .counted);
         },
-       work-met P s (next P s) (at .p) (at .q) (at .underway) (w .0) (w .1) (w .2))
+        work-met P s (next P s) (at .p) (at .q) (at .underway) (w .0) (w .1) (w .2),
+      )
 
   none-meets : some (P .flows) (meets P s (next P s)) ≡ false → (c : ℕ) → c < P .flows
       → next P s .high * cells (s .rising) c ≤ P .demand c * s .base * next P s .parts
@@ -105,23 +106,28 @@ module _ (P : Problem) (sound : Sound P) (s : State) (at : Between P s) where
       → some (P .flows) (meets P s (next P s)) ≡ false → Further (happen P s (next P s) (next P s .event))
   unfolding happen
   shut-further l hl e pos f =
-      rw e
-      (record {
+      rw e (
+        record {
           p = left P s l * across P l (cells (s .rising));
           q = across P l (cells (s .rising));
           underway = underway-after P sound s _ (at .p) (at .q) _ _ _ (at .underway) up step;
-          counted = counted-shut P (start P) s _ _ _ l parts refl step closing (at .counted)
+          counted = counted-shut P (start P) s _ _ _ l parts refl step closing (at .counted);
         },
-       work-shut P s l hl (fixed-fits l hl) none parts)
+        work-shut P s l hl (fixed-fits l hl) none parts,
+      )
     where
       up : Reached P s (at .p) (at .q) (left P s l) (across P l (cells (s .rising)))
       up = rw e at (reached pos (above-limit l hl e))
+
       parts : 0 < across P l (cells (s .rising))
       parts = rw e at pos
+
       none : (c : ℕ) → c < P .flows → left P s l * cells (s .rising) c ≤ P .demand c * s .base * across P l (cells (s .rising))
       none c hc = rw e at (none-meets f c hc)
+
       step : Step P s (shut P s (limitNext P s l) l) (left P s l) (across P l (cells (s .rising))) (across P l (cells (s .rising)))
       step = step-shut P s l hl (fixed-fits l hl) none parts
+
       closing : Shutting P s (shut P s (limitNext P s l) l) (left P s l) (across P l (cells (s .rising))) (across P l (cells (s .rising))) l
       closing = shutting P s l hl (fixed-fits l hl) none parts
 
@@ -129,23 +135,28 @@ module _ (P : Problem) (sound : Sound P) (s : State) (at : Between P s) where
       → some (P .flows) (meets P s (next P s)) ≡ false → Further (happen P s (next P s) (next P s .event))
   unfolding happen
   free-further c hc e pos f =
-      rw e
-      (record {
+      rw e (
+        record {
           p = cells (s .fixed) c * 1;
           q = cells (s .waiting) c;
           underway = underway-after P sound s _ (at .p) (at .q) _ _ 1 (at .underway) up step;
-          counted = counted-same P (start P) s _ _ _ step (at .counted)
+          counted = counted-same P (start P) s _ _ _ step (at .counted);
         },
-       work-free P s c hc parts (above .1) none)
+        work-free P s c hc parts (above .1) none,
+      )
     where
       parts : 0 < cells (s .waiting) c
       parts = rw e at pos
+
       above : (at .p * next P s .parts ≤ next P s .high * at .q) × (cells (s .rising) c ≡ 0)
       above = above-flow c parts e (at .underway .stage c hc)
+
       up : Reached P s (at .p) (at .q) (cells (s .fixed) c) (cells (s .waiting) c)
       up = rw e at (reached pos (above .0))
+
       none : (g : ℕ) → g < P .flows → cells (s .fixed) c * cells (s .rising) g ≤ P .demand g * s .base * cells (s .waiting) c
       none g hg = rw e at (none-meets f g hg)
+
       step : Step P s (free P s c) (cells (s .fixed) c) (cells (s .waiting) c) 1
       step = step-free P s c hc parts (above .1) none
 
@@ -162,12 +173,12 @@ module _ (P : Problem) (sound : Sound P) (s : State) (at : Between P s) where
       go : (next P s ≡ lowest (P .limits) (limitNext P s) never)
           ⊎ ((c : ℕ) × (c < P .flows) × (next P s ≡ flowNext s c) × (0 < cells (s .waiting) c))
           → (lowest (P .limits) (limitNext P s) never ≡ never)
-              ⊎ ((l : ℕ) × (l < P .limits) × (lowest (P .limits) (limitNext P s) never ≡ limitNext P s l)
-                  × (0 < across P l (cells (s .rising))))
+          ⊎ ((l : ℕ) × (l < P .limits) × (lowest (P .limits) (limitNext P s) never ≡ limitNext P s l)
+          × (0 < across P l (cells (s .rising))))
           → Which
       go (inr w) t = inr (inr w)
       go (inl e) (inl n) = inl (e ∙ n)
-      go (inl e) (inr (l , hl , q , pos)) = inr (inl (l, hl, e ∙ q, pos))
+      go (inl e) (inr (l, hl, q, pos)) = inr (inl (l, hl, e ∙ q, pos))
 
   round-further : 0 < next P s .parts → Further (round P s (next P s))
   unfolding round
@@ -176,10 +187,10 @@ module _ (P : Problem) (sound : Sound P) (s : State) (at : Between P s) where
       go : (b : Bool) → some (P .flows) (meets P s (next P s)) ≡ b → Which
           → Further (elim b [ true ↦ stopMet P s (next P s) | false ↦ happen P s (next P s) (next P s .event) ])
       go b f (inl n) = absurd (omega (arith, pos, ap (λ x. x .parts) n))
-      go true f (inr (inl (l , hl , e , w))) = met-further pos (above-limit l hl e) f
-      go false f (inr (inl (l , hl , e , w))) = shut-further l hl e pos f
-      go true f (inr (inr (c , hc , e , w))) = met-further pos (above-flow c w e (at .underway .stage c hc) .0) f
-      go false f (inr (inr (c , hc , e , w))) = free-further c hc e pos f
+      go true f (inr (inl (l, hl, e, w))) = met-further pos (above-limit l hl e) f
+      go false f (inr (inl (l, hl, e, w))) = shut-further l hl e pos f
+      go true f (inr (inr (c, hc, e, w))) = met-further pos (above-flow c w e (at .underway .stage c hc) .0) f
+      go false f (inr (inr (c, hc, e, w))) = free-further c hc e pos f
 
   ended : ((c : ℕ) → c < P .flows → (cells (s .rising) c ≡ 0) × (cells (s .waiting) c ≡ 0)) → Ended P s
   ended still =
@@ -187,8 +198,8 @@ module _ (P : Problem) (sound : Sound P) (s : State) (at : Between P s) where
 
   never-of-none : next P s .parts ≡ 0 → Which → next P s ≡ never
   never-of-none z (inl n) = n
-  never-of-none z (inr (inl (l , hl , e , w))) = absurd (omega (arith, z, ap (λ x. x .parts) e))
-  never-of-none z (inr (inr (c , hc , e , w))) = absurd (omega (arith, z, ap (λ x. x .parts) e))
+  never-of-none z (inr (inl (l, hl, e, w))) = absurd (omega (arith, z, ap (λ x. x .parts) e))
+  never-of-none z (inr (inr (c, hc, e, w))) = absurd (omega (arith, z, ap (λ x. x .parts) e))
 
 -- As many rounds as there is work to do are enough.
 idle-of-no-work : (P : Problem) (s : State) → work P s ≤ 0

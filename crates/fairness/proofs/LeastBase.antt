@@ -1,7 +1,7 @@
 -- A base and numerators, divided by their greatest common divisor, have the least base of all that give the same rates.
 use Prim.Native.Nat.{ℕ, _*_, _/_, _≤_, _<_, _∣_}
 use mathlib.Core.Path.{_≡_, ap, _∙_}
-use mathlib.Core.List.{List, map}
+use mathlib.Core.List.{List}
 use native.Mathlib.Nat.{
   div-mul-cancel,
   dvd-mul-left,
@@ -20,7 +20,7 @@ use native.Mathlib.Nat.{
 }
 use native.Mathlib.Omega.{arith}
 use lib.ListN.{length, getD, length-map, List·getD-map}
-use Rattle.fairness.specs.Divisor.{gcdOf, GcdOf}
+use Rattle.fairness.specs.Divisor.{gcdOf, divided, GcdOf}
 use Rattle.fairness.proofs.Divisors.{gcdOf-is, gcdOf-unique}
 
 -- Division changes no rate. Here and below g is any greatest common divisor, so that a program may find it in its own way.
@@ -53,13 +53,13 @@ least-unique n b₁ b₂ x₁ x₂ pos same h k =
     let e : b₁ ≡ b₂ = le-antisymm h k in
     (e, λ i l. eq-of-mul-eq-mul-right b₁ pos (x₁ i) (x₂ i) (ap (λ b. x₁ i * b) e ∙ same i l))
 
-getD-divided : (xs : List ℕ) (g i : ℕ) → getD (map (λ x. x / g) xs) i 0 ≡ getD xs i 0 / g
+pub getD-divided : (xs : List ℕ) (g i : ℕ) → getD (divided g xs) i 0 ≡ getD xs i 0 / g
 getD-divided xs g i = rw zero-div at (List·getD-map (λ x. x / g) xs i 0)
 
-pub reduced-is-one : {b g : ℕ} {xs : List ℕ} → GcdOf b xs g → 0 < b → GcdOf (b / g) (map (λ x. x / g) xs) 1
+pub reduced-is-one : {b g : ℕ} {xs : List ℕ} → GcdOf b xs g → 0 < b → GcdOf (b / g) (divided g xs) 1
 reduced-is-one {b} {g} {xs} r pos = record {
   base = one-dvd (b / g);
-  each = λ i. one-dvd (getD (map (λ x. x / g) xs) i 0);
+  each = λ i. one-dvd (getD (divided g xs) i 0);
   most = λ n d hb hx.
       let all : d * g ∣ n * g = r .most n (d * g) (scaled n d b (r .base) hb)
       (λ i h. scaled n d (getD xs i 0) (r .each i) (rw (getD-divided xs g i) at (hx i (rw length-map h)))) in
@@ -69,5 +69,5 @@ reduced-is-one {b} {g} {xs} r pos = record {
     scaled : (n d x : ℕ) → g ∣ x → d ∣ n * (x / g) → d * g ∣ n * x
     scaled n d x gx h = rw (mul-assoc, div-mul-cancel g gx) at (mul-dvd-mul-right d h g)
 
-pub reduced-gcd-one : {b g : ℕ} {xs : List ℕ} → GcdOf b xs g → 0 < b → gcdOf (b / g) (map (λ x. x / g) xs) ≡ 1
-reduced-gcd-one {b} {g} {xs} r pos = gcdOf-unique (gcdOf-is (b / g) (map (λ x. x / g) xs)) (reduced-is-one r pos)
+pub reduced-gcd-one : {b g : ℕ} {xs : List ℕ} → GcdOf b xs g → 0 < b → gcdOf (b / g) (divided g xs) ≡ 1
+reduced-gcd-one {b} {g} {xs} r pos = gcdOf-unique (gcdOf-is (b / g) (divided g xs)) (reduced-is-one r pos)

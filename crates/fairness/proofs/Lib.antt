@@ -13,3 +13,5 @@ pub mod Counted
 pub mod Start
 pub mod Steps
 pub mod Filling
+pub mod Existence
+pub mod Reduced

@@ -26,6 +26,7 @@ below-trans a b c proper h l = go (eq-zero-or-pos (b .parts)) proper
     cut pos =
         le-of-mul-le-mul-right {k = b .parts}
         (omega (arith, mul-le-mul-right (c .parts) h, mul-le-mul-right (a .parts) l)) pos
+
     go : (b .parts ≡ 0) ⊎ (0 < b .parts) → Proper b → Below a c
     go (inr pos) t = cut pos
     go (inl e) (inr pos) = cut pos
@@ -62,21 +63,21 @@ lowest-is (suc n) f first proper = go (lowest-is n f first proper) (lower-cases 
   where
     go : Lowest n f first (lowest n f first)
         → ((lower (lowest n f first) (f n) ≡ lowest n f first) × Below (lowest n f first) (f n))
-            ⊎ ((lower (lowest n f first) (f n) ≡ f n) × Below (f n) (lowest n f first) × (0 < f n .parts))
+        ⊎ ((lower (lowest n f first) (f n) ≡ f n) × Below (f n) (lowest n f first) × (0 < f n .parts))
         → Lowest (suc n) f first (lower (lowest n f first) (f n))
-    go old (inl (e , h)) =
+    go old (inl (e, h)) =
         rw e (record {
-            proper = old .proper;
-            beyond = old .beyond;
-            each = below-suc (λ i. Below (lowest n f first) (f i)) n (old .each) h;
-            which = ⊎-map (λ q. q) (λ w. (w .0, (let l = w .1 in omega arith), w .2, w .3)) (old .which)
-          })
-    go old (inr (e , h , pos)) =
+          proper = old .proper;
+          beyond = old .beyond;
+          each = below-suc (λ i. Below (lowest n f first) (f i)) n (old .each) h;
+          which = ⊎-map (λ q. q) (λ w. (w .0, (let l = w .1 in omega arith), w .2, w .3)) (old .which);
+        })
+    go old (inr (e, h, pos)) =
         rw e (record {
-            proper = inr pos;
-            beyond = below-trans (f n) (lowest n f first) first (old .proper) h (old .beyond);
-            each =
+          proper = inr pos;
+          beyond = below-trans (f n) (lowest n f first) first (old .proper) h (old .beyond);
+          each =
               below-suc (λ i. Below (f n) (f i)) n
               (λ i l. below-trans (f n) (lowest n f first) (f i) (old .proper) h (old .each i l)) (le-refl _);
-            which = inr (n, (omega arith), refl, pos)
-          })
+          which = inr (n, (omega arith), refl, pos);
+        })

@@ -50,15 +50,17 @@ module _ (P : Problem) (sound : Sound P) (s t : State) (p q a k m : ℕ)
         passes = closed .passes;
         idle = λ g hg e. (same g hg e .0, same g hg e .1);
         full = omega (arith, sums, ap (λ x. x * m) (closed .full), ap (λ x. P .capacity l * x) (step .base));
-        highest = λ g hg e. highest g (same g hg e .2) (closed .highest g hg e)
+        highest = λ g hg e. highest g (same g hg e .2) (closed .highest g hg e);
       }
     where
       same : (g : ℕ) → g < P .flows → P .through l g ≡ true → Same g
       same g hg e = same-of-stopped g hg (closed .idle g hg e .0) (closed .idle g hg e .1) (step .moved g hg)
+
       sums : across P l (cells (t .fixed)) * 1 ≡ across P l (cells (s .fixed)) * m + across P l (cells (s .fixed)) * 0
       sums =
           total-equal (P .flows) (P .through l) (cells (t .fixed)) (cells (s .fixed)) (cells (s .fixed)) 1 m 0
           (λ g hg e. omega (arith, same g hg e .2))
+
       highest : (g : ℕ) → cells (t .fixed) g ≡ cells (s .fixed) g * m
           → (cells (s .fixed) g * P .weight c ≤ cells (s .fixed) c * P .weight g) ⊎ (cells (s .fixed) g ≡ P .minimum g * s .base)
           → (cells (t .fixed) g * P .weight c ≤ cells (t .fixed) c * P .weight g) ⊎ (cells (t .fixed) g ≡ P .minimum g * t .base)
@@ -67,24 +69,25 @@ module _ (P : Problem) (sound : Sound P) (s t : State) (p q a k m : ℕ)
 
   stopped-after : (c : ℕ) → Stopped P s p q c → Same c → Stopped P t (a * m) k c
   unfolding Same
-  stopped-after c old (r , w , ef) =
+  stopped-after c old (r, w, ef) =
       record {
         still = r;
         calm = w;
         atLeast = rw (ef, step .base) (omega (arith, mul-le-mul-right m (old .atLeast)));
         atMost = rw (ef, step .base) (omega (arith, mul-le-mul-right m (old .atMost)));
         passed = passed (old .passed);
-        why = why (old .why)
+        why = why (old .why);
       }
     where
       passed : (cells (s .fixed) c * q ≤ p * P .weight c) ⊎ (cells (s .fixed) c ≡ P .minimum c * s .base)
           → (cells (t .fixed) c * k ≤ a * m * P .weight c) ⊎ (cells (t .fixed) c ≡ P .minimum c * t .base)
       passed (inl h) = inl (rw ef (omega (arith, mul-le-mul-right m (raised (cells (s .fixed) c) (P .weight c) h))))
       passed (inr e) = inr (rw (ef, step .base) (omega (arith, ap (λ x. x * m) e)))
+
       why : (cells (s .fixed) c ≡ P .demand c * s .base) ⊎ ((l : ℕ) × (l < P .limits) × Closed P s l c)
           → (cells (t .fixed) c ≡ P .demand c * t .base) ⊎ ((l : ℕ) × (l < P .limits) × Closed P t l c)
       why (inl e) = inl (rw (ef, step .base) (omega (arith, ap (λ x. x * m) e)))
-      why (inr (l , hl , closed)) = inr (l, hl, closed-after l c closed ef)
+      why (inr (l, hl, closed)) = inr (l, hl, closed-after l c closed ef)
 
   -- At a limit that shuts no flow ends above the level unless it stands at its minimum, and what rose or waited there
   -- does not end below it: so the limit is why these stop.
@@ -98,6 +101,7 @@ module _ (P : Problem) (sound : Sound P) (s t : State) (p q a k m : ℕ)
     where
       ef : cells (t .fixed) g ≡ cells (s .fixed) g * m
       ef = at-level l g hg e shutting (old .still)
+
       go : (cells (s .fixed) g * q ≤ p * P .weight g) ⊎ (cells (s .fixed) g ≡ P .minimum g * s .base)
           → (cells (t .fixed) g * k ≤ a * m * P .weight g) ⊎ (cells (t .fixed) g ≡ P .minimum g * t .base)
       go (inl h) = inl (rw ef (omega (arith, mul-le-mul-right m (raised (cells (s .fixed) g) (P .weight g) h))))
@@ -109,51 +113,52 @@ module _ (P : Problem) (sound : Sound P) (s t : State) (p q a k m : ℕ)
         passes = e;
         idle = shutting .idle;
         full = cancel (omega (arith, sums, ap (λ x. x * m) (shutting .full), ap (λ x. P .capacity l * x * k) (step .base)));
-        highest = λ g hg eg. highest g (below-level l g hg eg shutting (now .stage g hg))
+        highest = λ g hg eg. highest g (below-level l g hg eg shutting (now .stage g hg));
       }
     where
       sums : across P l (cells (t .fixed)) * k ≡ across P l (cells (s .fixed)) * (k * m) + across P l (cells (s .rising)) * (a * m)
       sums =
           total-equal (P .flows) (P .through l) (cells (t .fixed)) (cells (s .fixed)) (cells (s .rising)) k (k * m) (a * m)
           (λ g hg eg. omega (arith, shutting .level g hg eg))
+
       highest : (g : ℕ) → (cells (t .fixed) g * k ≤ a * m * P .weight g) ⊎ (cells (t .fixed) g ≡ P .minimum g * t .base)
           → (cells (t .fixed) g * P .weight c ≤ cells (t .fixed) c * P .weight g) ⊎ (cells (t .fixed) g ≡ P .minimum g * t .base)
       highest g (inl h) =
           inl (le-of-mul-le-mul-right {k = k}
-              (omega (arith, mul-le-mul-right (P .weight c) h, mul-le-mul-right (P .weight g) high)) (up .parted))
+          (omega (arith, mul-le-mul-right (P .weight c) h, mul-le-mul-right (P .weight g) high)) (up .parted))
       highest g (inr h) = inr h
 
   rises-after : (c : ℕ) → c < P .flows → Rising P s p q c → Moved P s t a k m c → Stage P t (a * m) k c
   rises-after c hc old (kept er ew ef h) =
       rises (record {
-          up = er ∙ old .up;
-          calm = ew ∙ old .calm;
-          unfixed = rw (ef, old .unfixed) (omega arith);
-          low = rw (step .base) (omega (arith, mul-le-mul-right m (raised (P .minimum c * s .base) (P .weight c) (old .low))));
-          high = rw (step .base) (omega (arith, mul-le-mul-right m (rw (old .up) at h)))
-        })
+        up = er ∙ old .up;
+        calm = ew ∙ old .calm;
+        unfixed = rw (ef, old .unfixed) (omega arith);
+        low = rw (step .base) (omega (arith, mul-le-mul-right m (raised (P .minimum c * s .base) (P .weight c) (old .low))));
+        high = rw (step .base) (omega (arith, mul-le-mul-right m (rw (old .up) at h)));
+      })
   rises-after c hc old (met pos h er ew ef) =
       stopped (record {
-          still = er;
-          calm = ew;
-          atLeast = rw (ef, step .base) (omega (arith, mul-le-mul-right (s .base * m) (sound .least c hc)));
-          atMost = rw (ef, step .base) (omega arith);
-          passed = inl (rw ef (omega (arith, mul-le-mul-right m (rw (old .up) at h))));
-          why = inl (rw (ef, step .base) (omega arith))
-        })
+        still = er;
+        calm = ew;
+        atLeast = rw (ef, step .base) (omega (arith, mul-le-mul-right (s .base * m) (sound .least c hc)));
+        atMost = rw (ef, step .base) (omega arith);
+        passed = inl (rw ef (omega (arith, mul-le-mul-right m (rw (old .up) at h))));
+        why = inl (rw (ef, step .base) (omega arith));
+      })
   rises-after c hc old (shutOff l e shutting h) =
       stopped (record {
-          still = shutting .idle c hc e .0;
-          calm = shutting .idle c hc e .1;
-          atLeast =
+        still = shutting .idle c hc e .0;
+        calm = shutting .idle c hc e .1;
+        atLeast =
             le-of-mul-le-mul-right {k = k}
             (rw (step .base) (omega (arith, at, mul-le-mul-right m (raised (P .minimum c * s .base) (P .weight c) (old .low)))))
             (up .parted);
-          atMost =
+        atMost =
             le-of-mul-le-mul-right {k = k} (rw (step .base) (omega (arith, at, mul-le-mul-right m (rw (old .up) at h)))) (up .parted);
-          passed = inl (omega (arith, at));
-          why = inr (l, shutting .listed, closed-by l c e shutting (omega (arith, at)))
-        })
+        passed = inl (omega (arith, at));
+        why = inr (l, shutting .listed, closed-by l c e shutting (omega (arith, at)));
+      })
     where
       at : cells (t .fixed) c * k ≡ a * m * P .weight c
       at = omega (arith, shutting .level c hc e, ap (λ x. x * (k * m)) (old .unfixed), ap (λ x. x * (a * m)) (old .up))
@@ -162,34 +167,38 @@ module _ (P : Problem) (sound : Sound P) (s t : State) (p q a k m : ℕ)
   waits-after : (c : ℕ) → c < P .flows → Waiting P s p q c → Moved P s t a k m c → Stage P t (a * m) k c
   waits-after c hc old (kept er ew ef h) =
       waits (record {
-          still = er ∙ old .still;
-          waits = ew ∙ old .waits;
-          here = rw (ef, step .base) (omega (arith, ap (λ x. x * m) (old .here)));
-          ahead = rw (step .base) (omega (arith, mul-le-mul-right m (rw (old .waits, old .here) at (up .ahead c hc))))
-        })
+        still = er ∙ old .still;
+        waits = ew ∙ old .waits;
+        here = rw (ef, step .base) (omega (arith, ap (λ x. x * m) (old .here)));
+        ahead = rw (step .base) (omega (arith, mul-le-mul-right m (rw (old .waits, old .here) at (up .ahead c hc))));
+      })
   waits-after c hc old (met pos h er ew ef) = absurd (omega (arith, old .still))
   waits-after c hc old (shutOff l e shutting h) =
       stopped (record {
-          still = shutting .idle c hc e .0;
-          calm = shutting .idle c hc e .1;
-          atLeast = rw (step .base) (omega (arith, at));
-          atMost = rw (step .base) (omega (arith, at, mul-le-mul-right (s .base * m) (sound .least c hc)));
-          passed = inr (rw (step .base) (omega (arith, at)));
-          why = inr (l, shutting .listed, closed-by l c e shutting
-              (omega (arith, ap (λ x. x * k) at, mul-le-mul-right m (rw (old .waits, old .here) at (up .ahead c hc)))))
-        })
+        still = shutting .idle c hc e .0;
+        calm = shutting .idle c hc e .1;
+        atLeast = rw (step .base) (omega (arith, at));
+        atMost = rw (step .base) (omega (arith, at, mul-le-mul-right (s .base * m) (sound .least c hc)));
+        passed = inr (rw (step .base) (omega (arith, at)));
+        why = inr (
+          l,
+          shutting .listed,
+          closed-by l c e shutting
+              (omega (arith, ap (λ x. x * k) at, mul-le-mul-right m (rw (old .waits, old .here) at (up .ahead c hc)))),
+        );
+      })
     where
       at : cells (t .fixed) c ≡ P .minimum c * s .base * m
       at = at-level l c hc e shutting (old .still) ∙ ap (λ x. x * m) (old .here)
   waits-after c hc old (freed pos e er ew ef) =
       let level : P .minimum c * s .base * k ≡ a * P .weight c = rw (old .here, old .waits) at e in
       rises (record {
-          up = er ∙ old .waits;
-          calm = ew;
-          unfixed = ef;
-          low = rw (step .base) (omega (arith, ap (λ x. x * m) level));
-          high = rw (step .base) (omega (arith, ap (λ x. x * m) level, mul-le-mul-right (s .base * m * k) (sound .least c hc)))
-        })
+        up = er ∙ old .waits;
+        calm = ew;
+        unfixed = ef;
+        low = rw (step .base) (omega (arith, ap (λ x. x * m) level));
+        high = rw (step .base) (omega (arith, ap (λ x. x * m) level, mul-le-mul-right (s .base * m * k) (sound .least c hc)));
+      })
 
   stage-after : (c : ℕ) → c < P .flows → Stage P s p q c → Stage P t (a * m) k c
   stage-after c hc (rises old) = rises-after c hc old (step .moved c hc)
@@ -212,10 +221,10 @@ module _ (P : Problem) (sound : Sound P) (s t : State) (p q a k m : ℕ)
         parted = up .parted;
         stage = λ c hc. stage-after c hc (now .stage c hc);
         room = λ l hl.
-          let sums =
-              total-linear (P .flows) (P .through l) (cells (t .fixed)) (cells (t .rising)) (cells (s .fixed)) (cells (s .rising))
-              k (a * m) (k * m) (a * m) (λ c hc e. no-more c hc (now .stage c hc) (step .moved c hc)) in
-          rw (step .base) (omega (arith, mul-le-mul-right m (up .room l hl)))
+            let sums =
+            total-linear (P .flows) (P .through l) (cells (t .fixed)) (cells (t .rising)) (cells (s .fixed)) (cells (s .rising))
+            k (a * m) (k * m) (a * m) (λ c hc e. no-more c hc (now .stage c hc) (step .moved c hc)) in
+            rw (step .base) (omega (arith, mul-le-mul-right m (up .room l hl)));
       }
 
 -- When nothing rises or waits any more, the rates are feasible, bounded and settled.
@@ -238,18 +247,18 @@ module _ (P : Problem) (s : State) (p q : ℕ) (now : Underway P s p q)
           → SettledAt P (ratesOf s) c
       go (inl e) t = inl e
       go (inr w) (inl h) = inl (le-antisymm (end c hc .atMost) h)
-      go (inr (l , hl , closed)) (inr h) =
+      go (inr (l, hl, closed)) (inr h) =
           inr (l, hl, record { passes = closed .passes; below = h; full = closed .full; highest = closed .highest })
 
   pub fair-at-end : Fair P (ratesOf s)
   fair-at-end =
       fair-of-settled P (ratesOf s)
       (record {
-          positive = now .based;
-          feasible =
+        positive = now .based;
+        feasible =
             record {
-              room = λ l hl. le-of-mul-le-mul-right {k = q} (omega (arith, now .room l hl)) (now .parted)
+              room = λ l hl. le-of-mul-le-mul-right {k = q} (omega (arith, now .room l hl)) (now .parted);
             };
-          bounded = record { atLeast = λ c hc. end c hc .atLeast; atMost = λ c hc. end c hc .atMost }
-        })
+        bounded = record { atLeast = λ c hc. end c hc .atLeast; atMost = λ c hc. end c hc .atMost };
+      })
       (record { each = settled-at-end })

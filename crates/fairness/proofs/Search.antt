@@ -59,28 +59,37 @@ all-or-some (suc n) Q R each = go (all-or-some n Q R (λ i h. each i (omega arit
 pub least-or-none : (n : ℕ) (Q R : ℕ → Type 0) (key size : ℕ → ℕ)
     → ((i : ℕ) → i < n → 0 < size i) → ((i : ℕ) → i < n → Q i ⊎ R i)
     → ((i : ℕ) → i < n → Q i)
-        ⊎ ((i : ℕ) × (i < n) × R i × ((j : ℕ) → j < n → Q j ⊎ (key i * size j ≤ key j * size i)))
+    ⊎ ((i : ℕ) × (i < n) × R i × ((j : ℕ) → j < n → Q j ⊎ (key i * size j ≤ key j * size i)))
 least-or-none zero Q R key size pos each = inl (λ i h. absurd (not-suc-le-zero h))
 least-or-none (suc n) Q R key size pos each =
     go (least-or-none n Q R key size (λ i h. pos i (omega arith)) (λ i h. each i (omega arith))) (each n (omega arith))
   where
     Least : ℕ → ℕ → ℕ → Type 0
     Least m i j = Q j ⊎ (key i * size j ≤ key j * size i)
+
     chain : (i j k : ℕ) → 0 < size j → key i * size j ≤ key j * size i → key j * size k ≤ key k * size j
         → key i * size k ≤ key k * size i
     chain i j k p h l =
         le-of-mul-le-mul-right {k = size j}
         (omega (arith, mul-le-mul-right (size k) h, mul-le-mul-right (size i) l)) p
+
     pick : (w : (i : ℕ) × (i < n) × R i × ((j : ℕ) → j < n → Least n i j)) → R n
         → (key (w .0) * size n ≤ key n * size (w .0)) ⊎ (key n * size (w .0) < key (w .0) * size n)
         → (i : ℕ) × (i < suc n) × R i × ((j : ℕ) → j < suc n → Least n i j)
     pick w r (inl h) =
         (w .0, (let l = w .1 in omega arith), w .2, below-suc (λ j. Least n (w .0) j) n (w .3) (inr h))
-    pick w r (inr h) =
-        (n, (omega arith), r, below-suc (λ j. Least n n j) n
-            (λ j l. elim (w .3 j l) [ inl q ↦ inl q
-                | inr k ↦ inr (chain n (w .0) j (pos (w .0) (let e = w .1 in omega arith)) (omega arith) k) ])
-            (inr (omega arith)))
+    pick w r (inr h) = (
+      n,
+      (omega arith),
+      r,
+      below-suc (λ j. Least n n j) n
+          (λ j l. elim (w .3 j l) [
+            | inl q ↦ inl q
+            | inr k ↦ inr (chain n (w .0) j (pos (w .0) (let e = w .1 in omega arith)) (omega arith) k)
+          ])
+          (inr (omega arith)),
+    )
+
     go : ((i : ℕ) → i < n → Q i) ⊎ ((i : ℕ) × (i < n) × R i × ((j : ℕ) → j < n → Least n i j)) → Q n ⊎ R n
         → ((i : ℕ) → i < suc n → Q i) ⊎ ((i : ℕ) × (i < suc n) × R i × ((j : ℕ) → j < suc n → Least n i j))
     go (inl below) (inl q) = inl (below-suc Q n below q)

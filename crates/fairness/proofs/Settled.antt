@@ -33,10 +33,10 @@ module _ (P : Problem) (a : Allocation) (ok : Allowed P a) where
       let top = mul-le-mul-right (a .base) (better .allowed .bounded .atMost f hf) in
       let more = better .more in
       omega (arith, ap (λ k. k * z .base) met)
-  no-better f hf z better (inr (l , hl , neck)) =
+  no-better f hf z better (inr (l, hl, neck)) =
       let sums =
-          total-linear (P .flows) (P .through l) (a .numerator) (one f) (z .numerator) (one f) (z .base) 1 (a .base) 0
-          (λ g hg m. keeps f z better l neck g hg m (eq-or-not g f)) in
+      total-linear (P .flows) (P .through l) (a .numerator) (one f) (z .numerator) (one f) (z .base) 1 (a .base) 0
+      (λ g hg m. keeps f z better l neck g hg m (eq-or-not g f)) in
       let gain = total-one (P .flows) (P .through l) f hf (neck .passes) in
       let room = mul-le-mul-right (a .base) (better .allowed .feasible .room l hl) in
       omega (arith, ap (λ k. k * z .base) (neck .full))
@@ -108,6 +108,7 @@ module _ (P : Problem) (a : Allocation) (ok : Allowed P a) (f : ℕ) (hf : f < P
       where
         Under : ℕ → Type 0
         Under g = P .through l g ≡ true → AtMost P a g f ⊎ (a .numerator g ≡ P .minimum g * a .base)
+
         side : (g : ℕ) → g < P .flows → Under g ⊎ ((P .through l g ≡ true) × (gives g ≡ true))
         side g hg = one-side (true-or-false (P .through l g)) (at-most-or-gives g)
           where
@@ -118,12 +119,14 @@ module _ (P : Problem) (a : Allocation) (ok : Allowed P a) (f : ℕ) (hf : f < P
             one-side (inl e) (inr t) = inr (e, t)
             one-side (inl e) (inl (inl h)) = inl (λ m. inl h)
             one-side (inl e) (inl (inr h)) = inl (λ m. inr (le-antisymm h (ok .bounded .atLeast g hg)))
+
         full : P .through l f ≡ true → P .capacity l * a .base ≤ across P l (a .numerator)
             → ((g : ℕ) → g < P .flows → Under g) ⊎ ((g : ℕ) × (g < P .flows) × ((P .through l g ≡ true) × (gives g ≡ true)))
             → Free l ⊎ Bottleneck P a l f
         full e h (inl under) =
             inr (record { passes = e; below = below; full = le-antisymm (ok .feasible .room l hl) h; highest = under })
         full e h (inr w) = inl (inr (e, inr (w .0, w .1, w .2 .0, w .2 .1)))
+
         go : (P .through l f ≡ true) ⊎ (P .through l f ≡ false)
             → (P .capacity l * a .base ≤ across P l (a .numerator)) ⊎ (across P l (a .numerator) < P .capacity l * a .base)
             → Free l ⊎ Bottleneck P a l f
@@ -142,9 +145,12 @@ module _ (P : Problem) (a : Allocation) (ok : Allowed P a) (f : ℕ) (hf : f < P
       exchanged-bounded =
           record {
             atLeast = λ g hg.
-              omega (arith, less-above (gives g) (a .numerator g) (P .minimum g * a .base) (ok .bounded .atLeast g hg)
-                  (above-of-gives g));
-            atMost = λ g hg. atMost g hg (eq-or-not g f)
+                omega (
+                  arith,
+                  less-above (gives g) (a .numerator g) (P .minimum g * a .base) (ok .bounded .atLeast g hg)
+                      (above-of-gives g),
+                );
+            atMost = λ g hg. atMost g hg (eq-or-not g f);
           }
 
       loses : (g c : ℕ) → gives g ≡ true → (c ≡ g) ⊎ (c ≡ g → ⊥) → less (gives c) (a .numerator c) + one g c ≤ a .numerator c
@@ -155,21 +161,25 @@ module _ (P : Problem) (a : Allocation) (ok : Allowed P a) (f : ℕ) (hf : f < P
       unfolding exchanged
       room l hl (inl out) =
           let sums =
-              total-le (P .flows) (P .through l) (exchanged .numerator) (a .numerator) 1 1
-              (λ c hc m. rw (one-other f c (λ e. true-not-false m (rw e out)))
-                  (omega (arith, less-le (gives c) (a .numerator c)))) in
+          total-le (P .flows) (P .through l) (exchanged .numerator) (a .numerator) 1 1
+          (λ c hc m. rw (one-other f c (λ e. true-not-false m (rw e out)))
+          (omega (arith, less-le (gives c) (a .numerator c)))) in
           omega (arith, ok .feasible .room l hl)
-      room l hl (inr (e , inl h)) =
+      room l hl (inr (e, inl h)) =
           let sums =
-              total-linear (P .flows) (P .through l) (exchanged .numerator) (one f) (a .numerator) (one f) 1 0 1 1
-              (λ c hc m. omega (arith, less-le (gives c) (a .numerator c))) in
+          total-linear (P .flows) (P .through l) (exchanged .numerator) (one f) (a .numerator) (one f) 1 0 1 1
+          (λ c hc m. omega (arith, less-le (gives c) (a .numerator c))) in
           omega (arith, total-one (P .flows) (P .through l) f hf e)
-      room l hl (inr (e , inr (g , hg , m , t))) =
+      room l hl (inr (e, inr (g, hg, m, t))) =
           let sums =
-              total-linear (P .flows) (P .through l) (exchanged .numerator) (one g) (a .numerator) (one f) 1 1 1 1
-              (λ c hc mc. omega (arith, loses g c t (eq-or-not c g))) in
-          omega (arith, total-one (P .flows) (P .through l) f hf e, total-one (P .flows) (P .through l) g hg m,
-              ok .feasible .room l hl)
+          total-linear (P .flows) (P .through l) (exchanged .numerator) (one g) (a .numerator) (one f) 1 1 1 1
+          (λ c hc mc. omega (arith, loses g c t (eq-or-not c g))) in
+          omega (
+            arith,
+            total-one (P .flows) (P .through l) f hf e,
+            total-one (P .flows) (P .through l) g hg m,
+            ok .feasible .room l hl,
+          )
 
       exchanged-feasible : Feasible P exchanged
       unfolding exchanged
@@ -181,9 +191,9 @@ module _ (P : Problem) (a : Allocation) (ok : Allowed P a) (f : ℕ) (hf : f < P
           record {
             allowed = record { positive = ok .positive; feasible = exchanged-feasible; bounded = exchanged-bounded };
             more =
-              rw (keeps-of-at-most f (le-refl _), one-self f)
-              (mul-lt-mul-of-pos-right (omega arith) (ok .positive));
-            noLess = λ g hg n h. rw (keeps-of-at-most g h, one-other f g n) (mul-le-mul-right (a .base) (omega arith))
+                rw (keeps-of-at-most f (le-refl _), one-self f)
+                (mul-lt-mul-of-pos-right (omega arith) (ok .positive));
+            noLess = λ g hg n h. rw (keeps-of-at-most g h, one-other f g n) (mul-le-mul-right (a .base) (omega arith));
           }
 
 pub settled-of-fair : (P : Problem) (a : Allocation) → Fair P a → Settled P a
@@ -195,10 +205,11 @@ settled-of-fair P a fair = record { each = λ f hf. at-demand-or-below f hf (le-
     held f hf below (inl free) =
         absurd (fair .unbeaten f hf (exchanged P a (fair .allowed) f hf) (exchanged-better P a (fair .allowed) f hf below free))
     held f hf below (inr w) = inr w
+
     at-demand-or-below : (f : ℕ) (hf : f < P .flows)
         → (P .demand f * a .base ≤ a .numerator f) ⊎ (a .numerator f < P .demand f * a .base) → SettledAt P a f
     at-demand-or-below f hf (inl h) = inl (le-antisymm (fair .allowed .bounded .atMost f hf) h)
     at-demand-or-below f hf (inr below) =
         held f hf below
         (all-or-some (P .limits) (Free P a (fair .allowed) f hf) (λ l. Bottleneck P a l f)
-            (bottleneck-or-free P a (fair .allowed) f hf below))
+        (bottleneck-or-free P a (fair .allowed) f hf below))

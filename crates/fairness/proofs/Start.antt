@@ -35,28 +35,28 @@ module _ (P : Problem) (sound : Sound P) where
   unfolding start
   stage-at-start c hc (inr low) t =
       waits (record {
-          still = rising-at-start c hc ∙ rw (ne-eqb (P .minimum c) 0 (ne-of-gt low), and-false);
-          waits = waiting-at-start c hc ∙ rw (lt-ltb 0 (P .minimum c) low);
-          here = omega (arith, fixed-at-start c hc);
-          ahead = omega arith
-        })
+        still = rising-at-start c hc ∙ rw (ne-eqb (P .minimum c) 0 (ne-of-gt low), and-false);
+        waits = waiting-at-start c hc ∙ rw (lt-ltb 0 (P .minimum c) low);
+        here = omega (arith, fixed-at-start c hc);
+        ahead = omega arith;
+      })
   stage-at-start c hc (inl none) (inl silent) =
       stopped (record {
-          still = rising-at-start c hc ∙ rw silent;
-          calm = waiting-at-start c hc ∙ rw none;
-          atLeast = omega (arith, fixed-at-start c hc);
-          atMost = omega (arith, fixed-at-start c hc);
-          passed = inr (omega (arith, fixed-at-start c hc));
-          why = inl (omega (arith, fixed-at-start c hc))
-        })
+        still = rising-at-start c hc ∙ rw silent;
+        calm = waiting-at-start c hc ∙ rw none;
+        atLeast = omega (arith, fixed-at-start c hc);
+        atMost = omega (arith, fixed-at-start c hc);
+        passed = inr (omega (arith, fixed-at-start c hc));
+        why = inl (omega (arith, fixed-at-start c hc));
+      })
   stage-at-start c hc (inl none) (inr asks) =
       rises (record {
-          up = rising-at-start c hc ∙ rw (lt-ltb 0 (P .demand c) asks, none);
-          calm = waiting-at-start c hc ∙ rw none;
-          unfixed = omega (arith, fixed-at-start c hc);
-          low = omega arith;
-          high = omega arith
-        })
+        up = rising-at-start c hc ∙ rw (lt-ltb 0 (P .demand c) asks, none);
+        calm = waiting-at-start c hc ∙ rw none;
+        unfixed = omega (arith, fixed-at-start c hc);
+        low = omega arith;
+        high = omega arith;
+      })
 
   pub underway-at-start : Underway P (start P) 0 1
   unfolding start
@@ -66,10 +66,10 @@ module _ (P : Problem) (sound : Sound P) where
         parted = omega arith;
         stage = λ c hc. stage-at-start c hc (eq-zero-or-pos (P .minimum c)) (eq-zero-or-pos (P .demand c));
         room = λ l hl.
-          let sums =
-              total-le (P .flows) (P .through l) (cells (start P .fixed)) (P .minimum) 1 1
-              (λ c hc e. omega (arith, fixed-at-start c hc)) in
-          omega (arith, sound .fits l hl)
+            let sums =
+            total-le (P .flows) (P .through l) (cells (start P .fixed)) (P .minimum) 1 1
+            (λ c hc e. omega (arith, fixed-at-start c hc)) in
+            omega (arith, sound .fits l hl);
       }
 
   pub counted-at-start : Counted P (start P) (start P)
@@ -86,6 +86,6 @@ module _ (P : Problem) (sound : Sound P) where
   pub afoot-at-start : afoot P (start P) ≤ total (P .flows) (λ c. true) (P .weight)
   afoot-at-start =
       let sums =
-          total-le (P .flows) (λ c. true) (λ c. cells (start P .rising) c + cells (start P .waiting) c) (P .weight) 1 1
-          (λ c hc e. omega (arith, live-at-start c hc (underway-at-start .stage c hc))) in
+      total-le (P .flows) (λ c. true) (λ c. cells (start P .rising) c + cells (start P .waiting) c) (P .weight) 1 1
+      (λ c hc e. omega (arith, live-at-start c hc (underway-at-start .stage c hc))) in
       omega arith

@@ -27,8 +27,8 @@ work-falls : (P : Problem) (s t : State) → ((c : ℕ) → c < P .flows → tod
 unfolding work
 work-falls P s t each f hf less =
     let sums =
-        total-linear (P .flows) (λ c. true) (todo t) (one f) (todo s) (one f) 1 1 1 0
-        (λ c hc e. go c hc (eq-or-not c f)) in
+    total-linear (P .flows) (λ c. true) (todo t) (one f) (todo s) (one f) 1 1 1 0
+    (λ c hc e. go c hc (eq-or-not c f)) in
     omega (arith, total-one (P .flows) (λ c. true) f hf refl)
   where
     go : (c : ℕ) → c < P .flows → (c ≡ f) ⊎ (c ≡ f → ⊥) → todo t c * 1 + one f c * 1 ≤ todo s c * 1 + one f c * 0
@@ -45,7 +45,7 @@ below-demand P s e c f = go (eq-zero-or-pos (cells (s .rising) c))
     go (inl z) = rw (z, mul-zero) (omega arith)
     go (inr pos) =
         let t : leb (P .demand c * s .base * e .parts) (e .high * cells (s .rising) c) ≡ false =
-            rw (lt-ltb 0 (cells (s .rising) c) pos) at f in
+        rw (lt-ltb 0 (cells (s .rising) c) pos) at f in
         le-of-lt (leb-false _ _ t)
 
 -- Flows that meet their demands stop.
@@ -84,7 +84,7 @@ module _ (P : Problem) (s : State) (e : Next) (p q : ℕ) (now : Underway P s p 
       record {
         positive = omega arith;
         base = omega arith;
-        moved = λ c hc. moved-met c hc (true-or-false (meets P s e c))
+        moved = λ c hc. moved-met c hc (true-or-false (meets P s e c));
       }
 
   pub work-met : (f : ℕ) → f < P .flows → meets P s e f ≡ true → work P (stopMet P s e) < work P s
@@ -92,12 +92,12 @@ module _ (P : Problem) (s : State) (e : Next) (p q : ℕ) (now : Underway P s p 
   work-met f hf t =
       work-falls P s (stopMet P s e) (λ c hc. todo-met c hc (true-or-false (meets P s e c))) f hf
       (let pos = ltb-true 0 (cells (s .rising) f) (both-true (ltb 0 (cells (s .rising) f)) _ t .0) in
-       rw (rising-met f hf, t) (omega arith))
+      rw (rising-met f hf, t) (omega arith))
 
 -- Limit l fills. Nobody meets a demand at or below the level.
 module _ (P : Problem) (s : State) (l : ℕ) (hl : l < P .limits) (room : across P l (cells (s .fixed)) ≤ P .capacity l * s .base)
     (none : (c : ℕ) → c < P .flows
-        → left P s l * cells (s .rising) c ≤ P .demand c * s .base * across P l (cells (s .rising)))
+    → left P s l * cells (s .rising) c ≤ P .demand c * s .base * across P l (cells (s .rising)))
     (pos : 0 < across P l (cells (s .rising))) where
   abbrev after : State
   after = shut P s (limitNext P s l) l
@@ -124,7 +124,7 @@ module _ (P : Problem) (s : State) (l : ℕ) (hl : l < P .limits) (room : across
         listed = hl;
         full = omega (arith, ap (λ x. x * across P l (cells (s .rising))) (add-sub-of-le room));
         idle = λ g hg e. (rising-shut g hg ∙ rw e, waiting-shut g hg ∙ rw e);
-        level = λ g hg e. ap (λ x. x * across P l (cells (s .rising))) (fixed-shut g hg ∙ rw e)
+        level = λ g hg e. ap (λ x. x * across P l (cells (s .rising))) (fixed-shut g hg ∙ rw e);
       }
 
   moved-shut : (c : ℕ) → c < P .flows → (P .through l c ≡ true) ⊎ (P .through l c ≡ false)
@@ -146,14 +146,14 @@ module _ (P : Problem) (s : State) (l : ℕ) (hl : l < P .limits) (room : across
   unfolding work
   work-shut =
       let sums =
-          total-linear (P .flows) (λ c. true) (todo after) (λ c. on (P .through l c) (cells (s .rising) c)) (todo s) (todo s) 1 1 1 0
-          (λ c hc e. omega (arith, todo-shut c hc (true-or-false (P .through l c)))) in
+      total-linear (P .flows) (λ c. true) (todo after) (λ c. on (P .through l c) (cells (s .rising) c)) (todo s) (todo s) 1 1 1 0
+      (λ c hc e. omega (arith, todo-shut c hc (true-or-false (P .through l c)))) in
       omega (arith, total-on (P .flows) (P .through l) (cells (s .rising)))
 
 -- Flow f's minimum is reached.
 module _ (P : Problem) (s : State) (f : ℕ) (hf : f < P .flows) (pos : 0 < cells (s .waiting) f) (still : cells (s .rising) f ≡ 0)
     (none : (c : ℕ) → c < P .flows
-        → cells (s .fixed) f * cells (s .rising) c ≤ P .demand c * s .base * cells (s .waiting) f) where
+    → cells (s .fixed) f * cells (s .rising) c ≤ P .demand c * s .base * cells (s .waiting) f) where
   module _ (c : ℕ) (hc : c < P .flows) where
     fixed-free : cells (free P s f .fixed) c ≡ cond (eqb c f) 0 (cells (s .fixed) c)
     unfolding free

@@ -1,6 +1,6 @@
 -- The greatest common divisor of two numbers, and of a number and a list.
-use Prim.Native.Nat.{ℕ, zero, suc, _*_, _%_, _<_, _∣_}
-use mathlib.Core.List.{List, [], _∷_}
+use Prim.Native.Nat.{ℕ, zero, suc, _*_, _/_, _%_, _<_, _∣_}
+use mathlib.Core.List.{List, [], _∷_, map}
 use lib.ListN.{length, getD}
 
 -- Euclid's algorithm, with the number of steps that it may take.
@@ -17,6 +17,10 @@ gcd a b = euclid (suc b) a b
 unfoldable pub gcdOf : ℕ → List ℕ → ℕ
 gcdOf b [] = b
 gcdOf b (x ∷ xs) = gcdOf (gcd b x) xs
+
+-- Every element of a list, divided by g.
+abbrev pub divided : ℕ → List ℕ → List ℕ
+divided g xs = map (λ x. x / g) xs
 
 -- What makes g the greatest common divisor of a and b; the factor n spares every proof Bezout's equation.
 pub record Gcd (a b g : ℕ) : Type 0 where

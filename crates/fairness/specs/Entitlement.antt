@@ -15,7 +15,7 @@ asking P f d =
       capacity = P .capacity;
       demand = λ c. cond (eqb c f) d (P .demand c);
       minimum = P .minimum;
-      weight = P .weight
+      weight = P .weight;
     }
 
 -- The weights, added up, of those flows through limit l that may ask for something.

@@ -60,3 +60,7 @@ pub record Settled (P : Problem) (a : Allocation) : Type 0 where
 -- The two give every flow the same rate.
 pub record SameRates (P : Problem) (a z : Allocation) : Type 0 where
   pub same : (c : ℕ) → c < P .flows → a .numerator c * z .base ≡ z .numerator c * a .base
+
+-- No smaller base gives these rates.
+pub record LeastBase (P : Problem) (a : Allocation) : Type 0 where
+  pub least : (z : Allocation) → 0 < z .base → SameRates P a z → a .base ≤ z .base

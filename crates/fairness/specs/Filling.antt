@@ -37,7 +37,7 @@ start P =
       base = 1;
       fixed = list (P .flows) (P .minimum);
       rising = list (P .flows) (λ c. on (ltb 0 (P .demand c) && eqb (P .minimum c) 0) (P .weight c));
-      waiting = list (P .flows) (λ c. on (ltb 0 (P .minimum c)) (P .weight c))
+      waiting = list (P .flows) (λ c. on (ltb 0 (P .minimum c)) (P .weight c));
     }
 
 -- What happens at a level: nothing, a limit fills, or a waiting flow's minimum is reached.
@@ -97,7 +97,7 @@ stopMet P s e =
       base = s .base;
       fixed = list (P .flows) (λ c. cond (meets P s e c) (P .demand c * s .base) (cells (s .fixed) c));
       rising = list (P .flows) (λ c. cond (meets P s e c) 0 (cells (s .rising) c));
-      waiting = s .waiting
+      waiting = s .waiting;
     }
 
 -- Limit l fills: all that rise through it stop at the level, and all that wait in it stop where they are. The base is
@@ -107,10 +107,10 @@ shut P s e l =
     record {
       base = s .base * e .parts;
       fixed =
-        list (P .flows)
-        (λ c. cells (s .fixed) c * e .parts + on (P .through l c) (cells (s .rising) c * e .high));
+          list (P .flows)
+          (λ c. cells (s .fixed) c * e .parts + on (P .through l c) (cells (s .rising) c * e .high));
       rising = list (P .flows) (λ c. on (not (P .through l c)) (cells (s .rising) c));
-      waiting = list (P .flows) (λ c. on (not (P .through l c)) (cells (s .waiting) c))
+      waiting = list (P .flows) (λ c. on (not (P .through l c)) (cells (s .waiting) c));
     }
 
 -- Flow f has waited long enough, and rises.
@@ -120,7 +120,7 @@ free P s f =
       base = s .base;
       fixed = list (P .flows) (λ c. cond (eqb c f) 0 (cells (s .fixed) c));
       rising = list (P .flows) (λ c. cond (eqb c f) (cells (s .waiting) c) (cells (s .rising) c));
-      waiting = list (P .flows) (λ c. cond (eqb c f) 0 (cells (s .waiting) c))
+      waiting = list (P .flows) (λ c. cond (eqb c f) 0 (cells (s .waiting) c));
     }
 
 -- The event takes place.
@@ -146,6 +146,10 @@ work P s = total (P .flows) (λ c. true) (λ c. cells (s .rising) c + 2 * cells 
 unfoldable pub filled : Problem → State
 filled P = fill (work P (start P)) P (start P)
 
+-- The rates whose numerators over a base are a list's.
+abbrev pub over : ℕ → List ℕ → Allocation
+over b xs = record { base = b; numerator = cells xs }
+
 -- The rates of a state in which nothing rises or waits any more.
 abbrev pub ratesOf : State → Allocation
-ratesOf s = record { base = s .base; numerator = cells (s .fixed) }
+ratesOf s = over (s .base) (s .fixed)

@@ -20,7 +20,7 @@ pub record Closed (P : Problem) (s : State) (l c : ℕ) : Type 0 where
   pub full : across P l (cells (s .fixed)) ≡ P .capacity l * s .base
   pub highest : (g : ℕ) → g < P .flows → P .through l g ≡ true
       → (cells (s .fixed) g * P .weight c ≤ cells (s .fixed) c * P .weight g)
-          ⊎ (cells (s .fixed) g ≡ P .minimum g * s .base)
+      ⊎ (cells (s .fixed) g ≡ P .minimum g * s .base)
 
 -- The flow rises: the level p / q, times its weight, lies between its minimum and its demand.
 pub record Rising (P : Problem) (s : State) (p q c : ℕ) : Type 0 where
