@@ -15,3 +15,4 @@ pub mod Steps
 pub mod Filling
 pub mod Existence
 pub mod Reduced
+pub mod Example

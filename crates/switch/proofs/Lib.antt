@@ -1,0 +1,15 @@
+-- What follows from the definitions of a switch.
+pub mod Tests
+pub mod Cells
+pub mod Search
+pub mod Rows
+pub mod Numbering
+pub mod RequestRows
+pub mod Within
+pub mod Grid
+pub mod Sharing
+pub mod Agree
+pub mod Fair
+pub mod Reason
+pub mod Planned
+pub mod Drawn

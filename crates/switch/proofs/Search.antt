@@ -1,0 +1,88 @@
+-- The search for a row's first offender: what it finds, and the laws that every searching loop cites.
+use Prim.Native.Nat.{ℕ, zero, suc, _+_, _≤_, _<_}
+use mathlib.Core.Logic.{_⊎_, inl, inr}
+use mathlib.Core.Path.{_≡_, refl, _∙_, subst}
+use mathlib.Core.Bool.{Bool, true, false}
+use native.Mathlib.Omega.{arith}
+use borrow.Author.Count.{below-none, below-more}
+use Rattle.switch.specs.Given.{Silent, First}
+use Rattle.switch.specs.Rows.{Row, firstFrom, firstOf}
+use Rattle.switch.specs.declared.found.Found.the-variants.{At, Nothing}
+
+module _ (test : ℕ → Bool) where
+  firstFrom-true : (k i : ℕ) → test i ≡ true → firstFrom (suc k) i test ≡ At i
+  unfolding firstFrom
+  firstFrom-true k i e = rw (e, firstFrom)
+
+  firstFrom-false : (k i : ℕ) → test i ≡ false → firstFrom (suc k) i test ≡ firstFrom k (suc i) test
+  unfolding firstFrom
+  firstFrom-false k i e = rw (e, firstFrom)
+
+  -- `d` is how far the offender is ahead of `i`
+  firstFrom-at : (k i d j : ℕ) → i + d ≡ j → d < k
+      → ((l : ℕ) → l < j → test l ≡ false) → test j ≡ true → firstFrom k i test ≡ At j
+  firstFrom-at zero i d j ahead near none here = absurd (omega arith)
+  firstFrom-at (suc k) i zero j ahead near none here =
+      let e : j ≡ i = omega arith in
+      subst (λ (x : ℕ). firstFrom (suc k) x test ≡ At j) e (firstFrom-true k j here)
+  firstFrom-at (suc k) i (suc d) j ahead near none here =
+      firstFrom-false k i (none i (omega arith)) ∙ firstFrom-at k (suc i) d j (omega arith) (omega arith) none here
+
+  firstFrom-nothing : (k i : ℕ) → ((l : ℕ) → l < i + k → test l ≡ false) → firstFrom k i test ≡ Nothing
+  unfolding firstFrom
+  firstFrom-nothing zero i none = refl
+  firstFrom-nothing (suc k) i none =
+      firstFrom-false k i (none i (omega arith)) ∙ firstFrom-nothing k (suc i) (λ l h. none l (omega arith))
+
+pub at-of-first : (row : Row) {i : ℕ} → First row i → firstOf row ≡ At i
+at-of-first row {i} f = firstFrom-at (row .offends) (row .size) 0 i i (omega arith) (f .below) (f .earlier) (f .here)
+
+pub nothing-of-silent : (row : Row) → Silent row → firstOf row ≡ Nothing
+nothing-of-silent row s = firstFrom-nothing (row .offends) (row .size) 0 (λ l h. s l (omega arith))
+
+-- How far a search has come: no candidate below `i` offends.
+pub record Passed (row : Row) (i : ℕ) : Type 0 where
+  pub within : i ≤ row .size
+  pub none : (k : ℕ) → k < i → row .offends k ≡ false
+
+pub passed-none : (row : Row) → Passed row 0
+passed-none row = record { within = omega arith; none = below-none _ }
+
+pub passed-more : {row : Row} {i : ℕ} → Passed row i → i < row .size → row .offends i ≡ false → Passed row (i + 1)
+passed-more {row} {i} p h e = record { within = omega arith; none = below-more _ i (p .none) e }
+
+pub found-at : {row : Row} {i : ℕ} → Passed row i → i < row .size → row .offends i ≡ true → firstOf row ≡ At i
+found-at {row} {i} p h e = at-of-first row (record { below = h; here = e; earlier = p .none })
+
+pub found-nothing : {row : Row} {i : ℕ} → Passed row i → row .size ≤ i → firstOf row ≡ Nothing
+found-nothing {row} {i} p h = nothing-of-silent row (λ k l. p .none k (omega arith))
+
+-- Of the first `n` candidates none offends, or one is the row's first offender.
+searched : (row : Row) (n : ℕ) → n ≤ row .size → ((k : ℕ) → k < n → row .offends k ≡ false) ⊎ ((i : ℕ) × First row i)
+searched row zero h = inl (λ k l. absurd (omega arith))
+searched row (suc n) h = go (searched row n (omega arith)) (row .offends n) refl
+  where
+    go : ((k : ℕ) → k < n → row .offends k ≡ false) ⊎ ((i : ℕ) × First row i)
+        → (b : Bool)
+        → row .offends n ≡ b
+        → ((k : ℕ) → k < suc n → row .offends k ≡ false) ⊎ ((i : ℕ) × First row i)
+    go (inr f) b e = inr f
+    go (inl s) true e = inr (n, record { below = h; here = e; earlier = s })
+    go (inl s) false e = inl (λ k l. below-more _ n s e k (omega arith))
+
+pub silent-or-first : (row : Row) → Silent row ⊎ ((i : ℕ) × First row i)
+silent-or-first row = searched row (row .size) (omega arith)
+
+-- The search finds only what is there.
+pub first-of-at : (row : Row) (i : ℕ) → firstOf row ≡ At i → First row i
+first-of-at row i e = go (silent-or-first row)
+  where
+    go : Silent row ⊎ ((j : ℕ) × First row j) → First row i
+    go (inl s) =
+        let n = nothing-of-silent row s in
+        let z : _≡_ {A = ℕ} 0 1 = cc in
+        absurd (omega arith)
+    go (inr (j, f)) =
+        let a = at-of-first row f in
+        let same : j ≡ i = cc in
+        subst (First row) same f

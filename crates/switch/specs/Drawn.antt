@@ -1,0 +1,43 @@
+-- The requests of the section 'Drawn examples', and a short way to write tables.
+use Prim.Native.Nat.{ℕ, zero, suc, _-_}
+use mathlib.Core.List.{List, [], _∷_, _++_}
+use lib.ListN.{replicate, length, set}
+use Rattle.switch.specs.Cells.{cellOf}
+use Rattle.switch.specs.declared.plan.Plan.{Plan}
+use Rattle.switch.specs.declared.request.Request.{Request}
+
+-- A list, followed by zeros up to n numbers.
+abbrev pub padded : ℕ → List ℕ → List ℕ
+padded n xs = xs ++ replicate (n - length xs) 0
+
+-- A table of 64 cells, given row by row; what is left out is 0.
+unfoldable pub rows : List (List ℕ) → List ℕ
+rows [] = []
+rows (row ∷ rest) = padded 8 row ++ rows rest
+
+abbrev pub table : List (List ℕ) → List ℕ
+table given = padded 64 (rows given)
+
+-- A request by its sizes, capacities and rows of demands.
+abbrev pub asked : ℕ → ℕ → List ℕ → List ℕ → List (List ℕ) → Request
+asked m n inputs outputs demands =
+    record { m = m; n = n; inputs = padded 8 inputs; outputs = padded 8 outputs; demands = table demands }
+
+-- A plan by its base and rows of numerators and reasons.
+abbrev pub drawn : ℕ → List (List ℕ) → List (List ℕ) → Plan
+drawn base numerators reasons = record { base = base; numerators = table numerators; reasons = table reasons }
+
+-- 'The triangle': four ports on a side, every capacity and every demand on or below the diagonal k.
+abbrev pub triangle : ℕ → Request
+triangle k =
+    asked 4 4 (k ∷ k ∷ k ∷ k ∷ []) (k ∷ k ∷ k ∷ k ∷ [])
+    ((k ∷ []) ∷ (k ∷ k ∷ []) ∷ (k ∷ k ∷ k ∷ []) ∷ (k ∷ k ∷ k ∷ k ∷ []) ∷ [])
+
+-- One port on each side.
+abbrev pub single : ℕ → ℕ → ℕ → Request
+single from to demand = asked 1 1 (from ∷ []) (to ∷ []) ((demand ∷ []) ∷ [])
+
+-- A request with the demand of one cell exchanged, and all else as it was.
+abbrev pub withDemand : Request → ℕ → ℕ → Request
+withDemand r c d =
+    record { m = r .m; n = r .n; inputs = r .inputs; outputs = r .outputs; demands = set (r .demands) c d }

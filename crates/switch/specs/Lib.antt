@@ -1,0 +1,14 @@
+-- What document 01 says of a switch, as definitions: ports and cells, requests within the limits, fairness, reasons and
+-- the plan of a request, and refusals with their numbers, places and rows.
+pub mod Cells
+pub mod Within
+pub mod Rates
+pub mod Fairness
+pub mod Reason
+pub mod Planned
+pub mod Values
+pub mod Numbering
+pub mod Rows
+pub mod Given
+pub mod RequestRows
+pub mod Drawn

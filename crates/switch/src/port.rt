@@ -1,0 +1,50 @@
+// Ports and cells: an input's number and an output's number are two types, so that an exchange of them is refused.
+ghost use mathlib.Core.Path.{_≡_};
+ghost use Rattle.switch.specs.Cells.{cellOf, inputOf, outputOf, inputLimit, outputLimit};
+
+pub struct Input(pub u32);
+
+pub struct Output(pub u32);
+
+// The cell of the flow from `u` to `v`.
+pub fn cell(u: Input, v: Output) -> u64
+    ensures { λ r. ⌜ r ≡ cellOf u v ⌝ }
+{
+    8 * (u.0 as u64) + (v.0 as u64)
+}
+
+impl Input {
+    // The input of a cell. A number above 63 is an unused cell: its input is 8, which no switch has.
+    pub fn of(cell: u64) -> Self
+        ensures { λ r. ⌜ r ≡ inputOf cell ⌝ }
+    {
+        if cell < 64 {
+            Input((cell / 8) as u32)
+        } else {
+            Input(8)
+        }
+    }
+
+    // The number of an input's limit: inputs come first.
+    pub fn limit(self) -> u64
+        ensures { λ r. ⌜ r ≡ inputLimit self ⌝ }
+    {
+        self.0 as u64
+    }
+}
+
+impl Output {
+    // The output of a cell.
+    pub fn of(cell: u64) -> Self
+        ensures { λ r. ⌜ r ≡ outputOf cell ⌝ }
+    {
+        Output((cell % 8) as u32)
+    }
+
+    // The number of an output's limit: after the eight inputs'.
+    pub fn limit(self) -> u64
+        ensures { λ r. ⌜ r ≡ outputLimit self ⌝ }
+    {
+        8 + (self.0 as u64)
+    }
+}

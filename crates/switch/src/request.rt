@@ -1,0 +1,81 @@
+// A request: a switch's port capacities and the demand of each flow, with the limits of its numbers.
+ghost use mathlib.Core.Path.{_≡_};
+ghost use Rattle.switch.specs.Cells.{inputUsed, outputUsed, used, usedCell, inputCapacity, outputCapacity, demandOf};
+ghost use Rattle.switch.specs.Values.{zeroRequest};
+use crate::entry::entry;
+use crate::port::Input;
+use crate::port::Output;
+
+pub struct Request {
+    pub m: u32,
+    pub n: u32,
+    pub inputs: [u32; 8],
+    pub outputs: [u32; 8],
+    pub demands: [u32; 64],
+}
+
+impl Request {
+    pub const PORTS: u32 = 8;
+
+    pub const CAPACITY: u32 = 16_777_216;
+
+    pub const DEMAND: u32 = 16_777_216;
+
+    // The request whose numbers are all 0: what a refused reading hands back.
+    pub fn zero() -> Self
+        ensures { λ r. ⌜ r ≡ zeroRequest ⌝ }
+    {
+        Request {
+            m: 0,
+            n: 0,
+            inputs: [0u32; 8],
+            outputs: [0u32; 8],
+            demands: [0u32; 64],
+        }
+    }
+
+    pub fn input_used(self, u: Input) -> bool
+        ensures { λ r. ⌜ r ≡ inputUsed self u ⌝ }
+    {
+        u.0 < self.m
+    }
+
+    pub fn output_used(self, v: Output) -> bool
+        ensures { λ r. ⌜ r ≡ outputUsed self v ⌝ }
+    {
+        v.0 < self.n
+    }
+
+    // Whether the flow from `u` to `v` is one of the switch's.
+    pub fn used(self, u: Input, v: Output) -> bool
+        ensures { λ r. ⌜ r ≡ used self u v ⌝ }
+    {
+        (u.0 < self.m) & (v.0 < self.n)
+    }
+
+    // A number above 63 is an unused cell.
+    pub fn used_cell(self, cell: u64) -> bool
+        ensures { λ r. ⌜ r ≡ usedCell self cell ⌝ }
+    {
+        (cell < 64) & self.used(Input::of(cell), Output::of(cell))
+    }
+
+    // A port past the table has capacity 0, and a cell past it demand 0.
+    pub fn input_capacity(self, u: Input) -> u32
+        ensures { λ r. ⌜ r ≡ inputCapacity self u ⌝ }
+    {
+        entry(&self.inputs, u.0 as u64)
+    }
+
+    pub fn output_capacity(self, v: Output) -> u32
+        ensures { λ r. ⌜ r ≡ outputCapacity self v ⌝ }
+    {
+        entry(&self.outputs, v.0 as u64)
+    }
+
+    pub fn demand(self, cell: u64) -> u32
+        ensures { λ r. ⌜ r ≡ demandOf self cell ⌝ }
+    {
+        entry(&self.demands, cell)
+    }
+}
