@@ -7,8 +7,7 @@ use mathlib.Core.List.{List·Memᴰ, List·Memᴰ·head, List·Memᴰ·tail, Lis
 use native.Mathlib.Omega.{arith}
 use Rattle.switch.specs.Given.{Silent, AllSilent, First, Applies, Gives}
 use Rattle.switch.specs.Numbering.{numberOf}
-use Rattle.switch.specs.Rows.{Row, firstOf, refusal, verdictOf}
-use Rattle.switch.specs.declared.found.Found.the-variants.{At, Nothing}
+use Rattle.switch.specs.Rows.{Row, at, nothing, firstOf, refusal, rowVerdict, orElse, verdictOf}
 use Rattle.switch.specs.declared.verdict.Cause.{Cause}
 use Rattle.switch.specs.declared.verdict.Refusal.{Refusal}
 use Rattle.switch.specs.declared.verdict.Verdict.{Verdict}
@@ -19,14 +18,18 @@ pub verdict-end : verdictOf [] ≡ Accepted
 unfolding verdictOf
 verdict-end = refl
 
--- The first row decides, or leaves it to the rest.
-pub verdict-at : (row : Row) (rest : List Row) (i : ℕ) → firstOf row ≡ At i → verdictOf (row ∷ rest) ≡ refusal (row .cause) (row .place i)
-unfolding verdictOf
-verdict-at row rest i e = rw (e, verdictOf)
+pub or-else-accepted : (v : Verdict) → orElse v Accepted ≡ v
+or-else-accepted Accepted = refl
+or-else-accepted (Refused x) = refl
 
-pub verdict-past : (row : Row) (rest : List Row) → firstOf row ≡ Nothing → verdictOf (row ∷ rest) ≡ verdictOf rest
-unfolding verdictOf
-verdict-past row rest e = rw (e, verdictOf)
+-- The first row decides, or leaves it to the rest.
+pub verdict-at : (row : Row) (rest : List Row) (i : ℕ) → firstOf row ≡ at i → verdictOf (row ∷ rest) ≡ refusal (row .cause) (row .place i)
+unfolding verdictOf rowVerdict
+verdict-at row rest i e = rw e
+
+pub verdict-past : (row : Row) (rest : List Row) → firstOf row ≡ nothing → verdictOf (row ∷ rest) ≡ verdictOf rest
+unfolding verdictOf rowVerdict
+verdict-past row rest e = rw e
 
 pub silent-nil : AllSilent []
 silent-nil x m = absurd (List·Memᴰ·not-nil m)

@@ -6,11 +6,11 @@ use mathlib.Core.Bool.{Bool, true, false}
 use native.Mathlib.Omega.{arith}
 use borrow.Author.Count.{below-none, below-more}
 use Rattle.switch.specs.Given.{Silent, First}
-use Rattle.switch.specs.Rows.{Row, firstFrom, firstOf}
-use Rattle.switch.specs.declared.found.Found.the-variants.{At, Nothing}
+use Rattle.switch.specs.Rows.{Row, Found, at, nothing, firstFrom, firstOf, refusal, rowVerdict}
+use Rattle.switch.specs.declared.verdict.Verdict.the-variants.{Accepted}
 
 module _ (test : ℕ → Bool) where
-  firstFrom-true : (k i : ℕ) → test i ≡ true → firstFrom (suc k) i test ≡ At i
+  firstFrom-true : (k i : ℕ) → test i ≡ true → firstFrom (suc k) i test ≡ at i
   unfolding firstFrom
   firstFrom-true k i e = rw (e, firstFrom)
 
@@ -20,24 +20,24 @@ module _ (test : ℕ → Bool) where
 
   -- `d` is how far the offender is ahead of `i`
   firstFrom-at : (k i d j : ℕ) → i + d ≡ j → d < k
-      → ((l : ℕ) → l < j → test l ≡ false) → test j ≡ true → firstFrom k i test ≡ At j
+      → ((l : ℕ) → l < j → test l ≡ false) → test j ≡ true → firstFrom k i test ≡ at j
   firstFrom-at zero i d j ahead near none here = absurd (omega arith)
   firstFrom-at (suc k) i zero j ahead near none here =
       let e : j ≡ i = omega arith in
-      subst (λ (x : ℕ). firstFrom (suc k) x test ≡ At j) e (firstFrom-true k j here)
+      subst (λ (x : ℕ). firstFrom (suc k) x test ≡ at j) e (firstFrom-true k j here)
   firstFrom-at (suc k) i (suc d) j ahead near none here =
       firstFrom-false k i (none i (omega arith)) ∙ firstFrom-at k (suc i) d j (omega arith) (omega arith) none here
 
-  firstFrom-nothing : (k i : ℕ) → ((l : ℕ) → l < i + k → test l ≡ false) → firstFrom k i test ≡ Nothing
+  firstFrom-nothing : (k i : ℕ) → ((l : ℕ) → l < i + k → test l ≡ false) → firstFrom k i test ≡ nothing
   unfolding firstFrom
   firstFrom-nothing zero i none = refl
   firstFrom-nothing (suc k) i none =
       firstFrom-false k i (none i (omega arith)) ∙ firstFrom-nothing k (suc i) (λ l h. none l (omega arith))
 
-pub at-of-first : (row : Row) {i : ℕ} → First row i → firstOf row ≡ At i
+pub at-of-first : (row : Row) {i : ℕ} → First row i → firstOf row ≡ at i
 at-of-first row {i} f = firstFrom-at (row .offends) (row .size) 0 i i (omega arith) (f .below) (f .earlier) (f .here)
 
-pub nothing-of-silent : (row : Row) → Silent row → firstOf row ≡ Nothing
+pub nothing-of-silent : (row : Row) → Silent row → firstOf row ≡ nothing
 nothing-of-silent row s = firstFrom-nothing (row .offends) (row .size) 0 (λ l h. s l (omega arith))
 
 -- How far a search has come: no candidate below `i` offends.
@@ -51,11 +51,14 @@ passed-none row = record { within = omega arith; none = below-none _ }
 pub passed-more : {row : Row} {i : ℕ} → Passed row i → i < row .size → row .offends i ≡ false → Passed row (i + 1)
 passed-more {row} {i} p h e = record { within = omega arith; none = below-more _ i (p .none) e }
 
-pub found-at : {row : Row} {i : ℕ} → Passed row i → i < row .size → row .offends i ≡ true → firstOf row ≡ At i
-found-at {row} {i} p h e = at-of-first row (record { below = h; here = e; earlier = p .none })
+pub row-refuses : {row : Row} {i : ℕ} → Passed row i → i < row .size → row .offends i ≡ true
+    → rowVerdict row ≡ refusal (row .cause) (row .place i)
+unfolding rowVerdict
+row-refuses {row} {i} p h e = rw (at-of-first row (record { below = h; here = e; earlier = p .none }))
 
-pub found-nothing : {row : Row} {i : ℕ} → Passed row i → row .size ≤ i → firstOf row ≡ Nothing
-found-nothing {row} {i} p h = nothing-of-silent row (λ k l. p .none k (omega arith))
+pub row-accepts : {row : Row} {i : ℕ} → Passed row i → row .size ≤ i → rowVerdict row ≡ Accepted
+unfolding rowVerdict
+row-accepts {row} {i} p h = rw (nothing-of-silent row (λ k l. p .none k (omega arith)))
 
 -- Of the first `n` candidates none offends, or one is the row's first offender.
 searched : (row : Row) (n : ℕ) → n ≤ row .size → ((k : ℕ) → k < n → row .offends k ≡ false) ⊎ ((i : ℕ) × First row i)
@@ -74,7 +77,7 @@ pub silent-or-first : (row : Row) → Silent row ⊎ ((i : ℕ) × First row i)
 silent-or-first row = searched row (row .size) (omega arith)
 
 -- The search finds only what is there.
-pub first-of-at : (row : Row) (i : ℕ) → firstOf row ≡ At i → First row i
+pub first-of-at : (row : Row) (i : ℕ) → firstOf row ≡ at i → First row i
 first-of-at row i e = go (silent-or-first row)
   where
     go : Silent row ⊎ ((j : ℕ) × First row j) → First row i

@@ -1,14 +1,16 @@
 // Rows 4 to 7 of the refusal table: for each a search for its first offender, among the candidates that the row's definition counts.
 ghost use Prim.Native.Nat.{_<_};
 ghost use mathlib.Core.Path.{_≡_};
-ghost use Rattle.switch.specs.Rows.{firstOf};
+ghost use Rattle.switch.specs.Rows.{rowVerdict};
 ghost use Rattle.switch.specs.RequestRows.{outside, above};
 ghost use Rattle.switch.specs.RequestRows.{capacityOffends, demandAbove, notZeroOffends};
 ghost use Rattle.switch.specs.RequestRows.{portsRow, capacityRow, demandRow, notZeroRow};
-use crate::found::Found;
 use crate::port::Input;
 use crate::port::Output;
 use crate::request::Request;
+use crate::verdict::Cause;
+use crate::verdict::Verdict;
+use crate::verdict::refused;
 
 // `x` passes `most`, where it has that limit.
 fn above(limited: bool, most: u32, x: u32) -> bool
@@ -24,16 +26,16 @@ fn outside(count: u32) -> bool
     !((1 <= count) & (count <= Request::PORTS))
 }
 
-pub fn first_ports(request: Request) -> Found
-    ensures { λ r. ⌜ r ≡ firstOf (portsRow request) ⌝ }
+pub fn ports_row(request: Request) -> Verdict
+    ensures { λ r. ⌜ r ≡ rowVerdict (portsRow request) ⌝ }
 {
     if outside(request.m) {
-        return Found::At(0);
+        return refused(Cause::Ports, 1);
     }
     if outside(request.n) {
-        return Found::At(1);
+        return refused(Cause::Ports, 2);
     }
-    Found::Nothing
+    Verdict::Accepted
 }
 
 // Row 5: the inputs, then the outputs.
@@ -57,15 +59,15 @@ fn capacity_offends(request: Request, i: u64) -> bool
     )
 }
 
-pub fn first_capacity(request: Request) -> Found
-    ensures { λ r. ⌜ r ≡ firstOf (capacityRow request) ⌝ }
+pub fn capacity_row(request: Request) -> Verdict
+    ensures { λ r. ⌜ r ≡ rowVerdict (capacityRow request) ⌝ }
 {
     for i in 0..16 {
         if capacity_offends(request, i) {
-            return Found::At(i);
+            return refused(Cause::Capacity, 3 + i);
         }
     }
-    Found::Nothing
+    Verdict::Accepted
 }
 
 // Row 6: the cells.
@@ -79,15 +81,15 @@ fn demand_above(request: Request, cell: u64) -> bool
     )
 }
 
-pub fn first_demand(request: Request) -> Found
-    ensures { λ r. ⌜ r ≡ firstOf (demandRow request) ⌝ }
+pub fn demand_row(request: Request) -> Verdict
+    ensures { λ r. ⌜ r ≡ rowVerdict (demandRow request) ⌝ }
 {
     for cell in 0..64 {
         if demand_above(request, cell) {
-            return Found::At(cell);
+            return refused(Cause::Demand, 19 + cell);
         }
     }
-    Found::Nothing
+    Verdict::Accepted
 }
 
 // Row 7: the inputs, the outputs, then the cells.
@@ -107,13 +109,13 @@ fn not_zero_offends(request: Request, i: u64) -> bool
     above(!request.used_cell(cell), 0, request.demand(cell))
 }
 
-pub fn first_not_zero(request: Request) -> Found
-    ensures { λ r. ⌜ r ≡ firstOf (notZeroRow request) ⌝ }
+pub fn not_zero_row(request: Request) -> Verdict
+    ensures { λ r. ⌜ r ≡ rowVerdict (notZeroRow request) ⌝ }
 {
     for i in 0..80 {
         if not_zero_offends(request, i) {
-            return Found::At(i);
+            return refused(Cause::NotZero, 3 + i);
         }
     }
-    Found::Nothing
+    Verdict::Accepted
 }

@@ -1,7 +1,7 @@
 // A verdict: acceptance, or the refusal together with its place. A cause is a row of the refusal table.
 ghost use mathlib.Core.Path.{_≡_};
 ghost use Rattle.switch.specs.Numbering.{numberOf};
-ghost use Rattle.switch.specs.Rows.{refusal};
+ghost use Rattle.switch.specs.Rows.{refusal, orElse};
 
 pub enum Cause {
     Length,
@@ -37,6 +37,18 @@ pub fn refused(cause: Cause, place: u64) -> Verdict
     ensures { λ r. ⌜ r ≡ refusal cause place ⌝ }
 {
     Verdict::Refused(Refusal { cause, place })
+}
+
+impl Verdict {
+    // The first refusal of the two, if there is one.
+    pub fn or_else(self, next: Verdict) -> Verdict
+        ensures { λ r. ⌜ r ≡ orElse self next ⌝ }
+    {
+        match self {
+            Verdict::Accepted => next,
+            Verdict::Refused(_) => self,
+        }
+    }
 }
 
 impl Cause {
