@@ -19,7 +19,7 @@ triangle minimum weight =
       capacity = λ l. 1;
       demand = λ c. on (leb (c % 4) (c / 4)) 1;
       minimum = minimum;
-      weight = weight
+      weight = weight;
     }
 
 pub record Worked (P : Problem) (base : ℕ) (numerators : List ℕ) : Type 0 where

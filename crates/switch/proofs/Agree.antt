@@ -35,11 +35,11 @@ module _ (r : Request) (a z : Rates) (agree : Agree r a z) where
       record {
         positive = rw (agree .base) at (ok .positive);
         feasible =
-          record {
-            inputs = λ u h. rw (agree-input u h, agree .base) at (ok .feasible .inputs u h);
-            outputs = λ v h. rw (agree-output v h, agree .base) at (ok .feasible .outputs v h)
-          };
-        bounded = record { demands = λ u v is. rw (agree .flows u v is, agree .base) at (ok .bounded .demands u v is) }
+            record {
+              inputs = λ u h. rw (agree-input u h, agree .base) at (ok .feasible .inputs u h);
+              outputs = λ v h. rw (agree-output v h, agree .base) at (ok .feasible .outputs v h);
+            };
+        bounded = record { demands = λ u v is. rw (agree .flows u v is, agree .base) at (ok .bounded .demands u v is) };
       }
 
   -- read backwards: what is better than z is better than a
@@ -48,15 +48,15 @@ module _ (r : Request) (a z : Rates) (agree : Agree r a z) where
       record {
         more = rw (agree .flows u v is, agree .base) (more .more);
         noLess = λ u' v' is' other h.
-          rw (agree .flows u' v' is', agree .base)
-          (more .noLess u' v' is' other (rw (agree .flows u' v' is', agree .flows u v is) at h))
+            rw (agree .flows u' v' is', agree .base)
+            (more .noLess u' v' is' other (rw (agree .flows u' v' is', agree .flows u v is) at h));
       }
 
   pub agree-fair : Fair r a → Fair r z
   agree-fair fair =
       record {
         allocation = agree-allocation (fair .allocation);
-        unbeaten = λ u v is y ok more. fair .unbeaten u v is y ok (agree-more u v is y more)
+        unbeaten = λ u v is y ok more. fair .unbeaten u v is y ok (agree-more u v is y more);
       }
 
   pub agree-input-bottleneck : (u : Input) (v : Output) → Used r u v → InputBottleneck r a u v → InputBottleneck r z u v
@@ -65,7 +65,7 @@ module _ (r : Request) (a z : Rates) (agree : Agree r a z) where
         below = rw (agree .flows u v is, agree .base) at (neck .below);
         full = rw (agree-input u (is .input), agree .base) at (neck .full);
         greatest = λ v' h.
-          rw (agree .flows u v' (record { input = is .input; output = h }), agree .flows u v is) at (neck .greatest v' h)
+            rw (agree .flows u v' (record { input = is .input; output = h }), agree .flows u v is) at (neck .greatest v' h);
       }
 
   agree-output-bottleneck : (u : Input) (v : Output) → Used r u v → OutputBottleneck r a u v → OutputBottleneck r z u v
@@ -74,7 +74,7 @@ module _ (r : Request) (a z : Rates) (agree : Agree r a z) where
         below = rw (agree .flows u v is, agree .base) at (neck .below);
         full = rw (agree-output v (is .output), agree .base) at (neck .full);
         greatest = λ u' h.
-          rw (agree .flows u' v (record { input = h; output = is .output }), agree .flows u v is) at (neck .greatest u' h)
+            rw (agree .flows u' v (record { input = h; output = is .output }), agree .flows u v is) at (neck .greatest u' h);
       }
 
   pub agree-settled : Settled r a → Settled r z
@@ -97,10 +97,10 @@ module _ (r : Request) (w : Within r) (a : Rates) where
       record {
         base = refl;
         flows = λ u v is.
-          let e : usedCell r (cellOf u v) ≡ true =
-              usedCell-of-cell r u v (omega (arith, is .input, w .inputs .1)) (omega (arith, is .output, w .outputs .1))
-              ∙ used-of-below r u v (is .input) (is .output) in
-          rw e
+            let e : usedCell r (cellOf u v) ≡ true =
+            usedCell-of-cell r u v (omega (arith, is .input, w .inputs .1)) (omega (arith, is .output, w .outputs .1))
+            ∙ used-of-below r u v (is .input) (is .output) in
+            rw e;
       }
 
   pub blank-blanked : Blank r (blanked r a)

@@ -5,11 +5,12 @@ use mathlib.Core.Path.{_≡_, refl, _∙_, ap}
 use mathlib.Core.Bool.{Bool, true, false}
 use native.Mathlib.Omega.{arith}
 use borrow.Author.Tests.{lt-ltb, le-ltb, ltb-true, ltb-false}
+use Rattle.fairness.proofs.Search.{both-true}
 use Rattle.switch.specs.Cells.{input, output, cellOf, inputOf, outputOf, inputUsed, outputUsed, used, usedCell}
 use Rattle.switch.specs.declared.port.Input.{Input}
 use Rattle.switch.specs.declared.port.Output.{Output}
 use Rattle.switch.specs.declared.request.Request.{Request}
-use Rattle.switch.proofs.Tests.{and-left, and-right, and-false-of, second-false}
+use Rattle.switch.proofs.Tests.{and-false-of, second-false}
 
 pub cell-below : (u : Input) (v : Output) → u .0 < 8 → v .0 < 8 → cellOf u v < 64
 cell-below u v hu hv = omega arith
@@ -27,10 +28,9 @@ pub used-of-below : (r : Request) (u : Input) (v : Output) → u .0 < r .m → v
 used-of-below r u v hu hv = simp (lt-ltb _ _ hu, lt-ltb _ _ hv)
 
 pub below-of-used : (r : Request) (u : Input) (v : Output) → used r u v ≡ true → (u .0 < r .m) × (v .0 < r .n)
-below-of-used r u v e = (
-  ltb-true (u .0) (r .m) (and-left (inputUsed r u) (outputUsed r v) e),
-  ltb-true (v .0) (r .n) (and-right (inputUsed r u) (outputUsed r v) e),
-)
+below-of-used r u v e =
+    let both = both-true (inputUsed r u) (outputUsed r v) e in
+    (ltb-true (u .0) (r .m) (both .0), ltb-true (v .0) (r .n) (both .1))
 
 pub unused-of-past : (r : Request) (u : Input) (v : Output) → (r .m ≤ u .0) ⊎ (r .n ≤ v .0) → used r u v ≡ false
 unused-of-past r u v (inl h) = simp (le-ltb (u .0) (r .m) h)

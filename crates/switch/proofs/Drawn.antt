@@ -15,7 +15,7 @@ pub record Drawn : Type 0 where
   -- 'triangle: base 8; numerators by row 2 / 2 3 / 2 3 3 / 2 2 2 2; reasons 2 / 2 2 / 2 1 1 / 1 1 1 1; the rest 0'
   pub p1 : planOf (triangle 1)
       ≡ drawn 8 ((2 ∷ []) ∷ (2 ∷ 3 ∷ []) ∷ (2 ∷ 3 ∷ 3 ∷ []) ∷ (2 ∷ 2 ∷ 2 ∷ 2 ∷ []) ∷ [])
-          ((2 ∷ []) ∷ (2 ∷ 2 ∷ []) ∷ (2 ∷ 1 ∷ 1 ∷ []) ∷ (1 ∷ 1 ∷ 1 ∷ 1 ∷ []) ∷ [])
+      ((2 ∷ []) ∷ (2 ∷ 2 ∷ []) ∷ (2 ∷ 1 ∷ 1 ∷ []) ∷ (1 ∷ 1 ∷ 1 ∷ 1 ∷ []) ∷ [])
   -- 'one port each, capacities 2 and 1, demand 2: rate 1, reason 2'
   pub p2 : planOf (single 2 1 2) ≡ drawn 1 ((1 ∷ []) ∷ []) ((2 ∷ []) ∷ [])
   -- 'capacities 5 and 5, demand 0: rate 0, base 1, reason 0'
@@ -27,18 +27,18 @@ pub record Drawn : Type 0 where
   pub p5-more : planOf (single 5 5 6) ≡ drawn 1 ((5 ∷ []) ∷ []) ((1 ∷ []) ∷ [])
   -- 'one input, three outputs, all capacities and demands 16,777,216: base 3, each numerator 16,777,216, reason 1'
   pub p6 : planOf (asked 1 3 (16_777_216 ∷ []) (16_777_216 ∷ 16_777_216 ∷ 16_777_216 ∷ [])
-          ((16_777_216 ∷ 16_777_216 ∷ 16_777_216 ∷ []) ∷ []))
+      ((16_777_216 ∷ 16_777_216 ∷ 16_777_216 ∷ []) ∷ []))
       ≡ drawn 3 ((16_777_216 ∷ 16_777_216 ∷ 16_777_216 ∷ []) ∷ []) ((1 ∷ 1 ∷ 1 ∷ []) ∷ [])
   -- 'triangle with capacities and demands 8: cell 9 gets 3. Its demand lowered to 2: it gets 2.'
   pub p8 : planOf (triangle 8)
       ≡ drawn 1 ((2 ∷ []) ∷ (2 ∷ 3 ∷ []) ∷ (2 ∷ 3 ∷ 3 ∷ []) ∷ (2 ∷ 2 ∷ 2 ∷ 2 ∷ []) ∷ [])
-          ((2 ∷ []) ∷ (2 ∷ 2 ∷ []) ∷ (2 ∷ 1 ∷ 1 ∷ []) ∷ (1 ∷ 1 ∷ 1 ∷ 1 ∷ []) ∷ [])
+      ((2 ∷ []) ∷ (2 ∷ 2 ∷ []) ∷ (2 ∷ 1 ∷ 1 ∷ []) ∷ (1 ∷ 1 ∷ 1 ∷ 1 ∷ []) ∷ [])
   pub p8-lowered : planOf (withDemand (triangle 8) 9 2)
       ≡ drawn 1 ((2 ∷ []) ∷ (2 ∷ 2 ∷ []) ∷ (2 ∷ 3 ∷ 3 ∷ []) ∷ (2 ∷ 2 ∷ 2 ∷ 2 ∷ []) ∷ [])
-          ((2 ∷ []) ∷ (2 ∷ 0 ∷ []) ∷ (2 ∷ 1 ∷ 1 ∷ []) ∷ (1 ∷ 1 ∷ 1 ∷ 1 ∷ []) ∷ [])
+      ((2 ∷ []) ∷ (2 ∷ 0 ∷ []) ∷ (2 ∷ 1 ∷ 1 ∷ []) ∷ (1 ∷ 1 ∷ 1 ∷ 1 ∷ []) ∷ [])
 
 pub drawn-examples : Drawn
 unfolding total listFrom list start lowest next some stopMet shut free happen round fill work filled
-  euclid gcd gcdOf sumTo every planFrom planOfState planOf rows
+    euclid gcd gcdOf sumTo every planFrom planOfState planOf rows
 drawn-examples =
     record { p1 = refl; p2 = refl; p3 = refl; p4 = refl; p5 = refl; p5-more = refl; p6 = refl; p8 = refl; p8-lowered = refl }

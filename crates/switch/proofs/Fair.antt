@@ -37,7 +37,7 @@ module _ (r : Request) (w : Within r) where
         placed = λ c h. (inputLimit (inputOf c), (omega arith), rw (eq-eqb (inputLimit (inputOf c)) (inputLimit (inputOf c)) refl));
         weighed = λ c h. omega arith;
         least = λ c h. omega arith;
-        fits = λ l h. omega (arith, total-le 64 (passes l) (λ c. 0) (λ c. 0) 1 0 (λ c hc e. omega arith))
+        fits = λ l h. omega (arith, total-le 64 (passes l) (λ c. 0) (λ c. 0) 1 0 (λ c hc e. omega arith));
       }
 
   -- Fair in document 01's words and with 0 in unused cells is fair for the problem,
@@ -46,7 +46,7 @@ module _ (r : Request) (w : Within r) where
       record {
         allowed = allowed-of-allocation r w a blank (fair .allocation);
         unbeaten =
-          by-cell r (λ f. (z : General.Allocation) → General.Better (problemOf r) (general a) f z → ⊥) of-flow of-unused
+            by-cell r (λ f. (z : General.Allocation) → General.Better (problemOf r) (general a) f z → ⊥) of-flow of-unused;
       }
     where
       of-flow : (u : Input) (v : Output) → Used r u v → (z : General.Allocation)
@@ -55,17 +55,18 @@ module _ (r : Request) (w : Within r) where
           let zr : Rates = record { base = z .base; numerator = z .numerator } in
           fair .unbeaten u v is zr (allocation-of-allowed r w zr (better .allowed))
           (record {
-              more = better .more;
-              noLess = λ u' v' is' other h.
+            more = better .more;
+            noLess = λ u' v' is' other h.
                 let low = below-eight r w u' v' is' in
-                better .noLess (cellOf u' v') (omega arith) other (omega arith)
-            })
+                better .noLess (cellOf u' v') (omega arith) other (omega arith);
+          })
+
       of-unused : (u : Input) (v : Output) → u .0 < 8 → v .0 < 8 → Past r u v → (z : General.Allocation)
           → General.Better (problemOf r) (general a) (cellOf u v) z → ⊥
       of-unused u v hu hv past z better =
           let top = better .allowed .bounded .atMost (cellOf u v) (omega arith) in
           let nothing : z .numerator (cellOf u v) ≡ 0 =
-              omega (arith, ap (λ k. k * z .base) (w .unused-cell u v hu hv past)) in
+          omega (arith, ap (λ k. k * z .base) (w .unused-cell u v hu hv past)) in
           omega (arith, better .more, ap (λ k. k * a .base) nothing)
 
   -- and the other way round.
@@ -73,26 +74,27 @@ module _ (r : Request) (w : Within r) where
   fair-of-general a fair =
       record {
         allocation = allocation-of-allowed r w a (fair .allowed);
-        unbeaten = λ u v is z ok more. fair .unbeaten (cellOf u v) (cell u v is) (general (blanked r z)) (better u v is z ok more)
+        unbeaten = λ u v is z ok more. fair .unbeaten (cellOf u v) (cell u v is) (general (blanked r z)) (better u v is z ok more);
       }
     where
       cell : (u : Input) (v : Output) → Used r u v → cellOf u v < 64
       cell u v is = let low = below-eight r w u v is in omega arith
+
       better : (u : Input) (v : Output) → Used r u v → (z : Rates) → Allocation r z → GivesMore r a u v z
           → General.Better (problemOf r) (general a) (cellOf u v) (general (blanked r z))
       better u v is z ok more =
           let agree = agree-blanked r w z in
           record {
             allowed =
-              allowed-of-allocation r w (blanked r z) (blank-blanked r w z) (agree-allocation r z (blanked r z) agree ok);
+                allowed-of-allocation r w (blanked r z) (blank-blanked r w z) (agree-allocation r z (blanked r z) agree ok);
             more = rw (agree .flows u v is) at (more .more);
             noLess =
-              by-cell r
-              (λ g. g ≢ cellOf u v → General.AtMost (problemOf r) (general a) g (cellOf u v)
-                  → a .numerator g * z .base ≤ blanked r z .numerator g * a .base)
-              (λ u' v' is' other h. rw (agree .flows u' v' is') at (more .noLess u' v' is' other (omega arith)))
-              (λ u' v' hu hv past other h.
-                omega (arith, ap (λ k. k * z .base) (blank-of-allowed r w a (fair .allowed) .unused u' v' hu hv past)))
+                by-cell r
+                (λ g. g ≢ cellOf u v → General.AtMost (problemOf r) (general a) g (cellOf u v)
+                → a .numerator g * z .base ≤ blanked r z .numerator g * a .base)
+                (λ u' v' is' other h. rw (agree .flows u' v' is') at (more .noLess u' v' is' other (omega arith)))
+                (λ u' v' hu hv past other h.
+                omega (arith, ap (λ k. k * z .base) (blank-of-allowed r w a (fair .allowed) .unused u' v' hu hv past)));
           }
 
   -- 'a feasible and bounded allocation is fair exactly when each flow either has its demand or has a bottleneck'
@@ -102,29 +104,32 @@ module _ (r : Request) (w : Within r) where
       let blank = blank-blanked r w a in
       agree-fair r (blanked r a) a (agree-sym r a (blanked r a) agree)
       (fair-of-general (blanked r a)
-          (fair-of-settled (problemOf r) (general (blanked r a))
-              (allowed-of-allocation r w (blanked r a) blank (agree-allocation r a (blanked r a) agree ok))
-              (record { each = each (agree-settled r a (blanked r a) agree settled) })))
+      (fair-of-settled (problemOf r) (general (blanked r a))
+      (allowed-of-allocation r w (blanked r a) blank (agree-allocation r a (blanked r a) agree ok))
+      (record { each = each (agree-settled r a (blanked r a) agree settled) })))
     where
       each : Settled r (blanked r a) → (c : ℕ) → c < 64 → General.SettledAt (problemOf r) (general (blanked r a)) c
       each settled' =
           by-cell r (General.SettledAt (problemOf r) (general (blanked r a)))
           (λ u v is. general-of-settled r w (blanked r a) (blank-blanked r w a) u v is (settled' .each u v is))
-          (λ u v hu hv past. inl (omega (arith, blank-blanked r w a .unused u v hu hv past,
-              ap (λ k. k * a .base) (w .unused-cell u v hu hv past))))
+          (λ u v hu hv past. inl (omega (
+            arith,
+            blank-blanked r w a .unused u v hu hv past,
+            ap (λ k. k * a .base) (w .unused-cell u v hu hv past),
+          )))
 
   pub settled-when-fair : (a : Rates) → Fair r a → Settled r a
   settled-when-fair a fair =
       let agree = agree-blanked r w a in
       let blank = blank-blanked r w a in
       let all = settled-of-fair (problemOf r) (general (blanked r a))
-          (general-of-fair (blanked r a) blank (agree-fair r a (blanked r a) agree fair)) in
+      (general-of-fair (blanked r a) blank (agree-fair r a (blanked r a) agree fair)) in
       agree-settled r (blanked r a) a (agree-sym r a (blanked r a) agree)
       (record {
-          each = λ u v is.
+        each = λ u v is.
             let low = below-eight r w u v is in
-            settled-of-general r w (blanked r a) blank u v is (all .each (cellOf u v) (omega arith))
-        })
+            settled-of-general r w (blanked r a) blank u v is (all .each (cellOf u v) (omega arith));
+      })
 
   -- 'one fair allocation exists for each request'
   pub one-is-fair : (a : Rates) × Fair r a
@@ -138,10 +143,10 @@ module _ (r : Request) (w : Within r) where
       let agreeA = agree-blanked r w a in
       let agreeZ = agree-blanked r w z in
       let same = same-of-fair (problemOf r) (λ c h. omega arith) (general (blanked r a)) (general (blanked r z))
-          (general-of-fair (blanked r a) (blank-blanked r w a) (agree-fair r a (blanked r a) agreeA fairA))
-          (general-of-fair (blanked r z) (blank-blanked r w z) (agree-fair r z (blanked r z) agreeZ fairZ)) in
+      (general-of-fair (blanked r a) (blank-blanked r w a) (agree-fair r a (blanked r a) agreeA fairA))
+      (general-of-fair (blanked r z) (blank-blanked r w z) (agree-fair r z (blanked r z) agreeZ fairZ)) in
       record {
         same = λ u v is.
-          let low = below-eight r w u v is in
-          rw (agreeA .flows u v is, agreeZ .flows u v is) (same .same (cellOf u v) (omega arith))
+            let low = below-eight r w u v is in
+            rw (agreeA .flows u v is, agreeZ .flows u v is) (same .same (cellOf u v) (omega arith));
       }

@@ -37,7 +37,7 @@ total-same n s x f h = sym (total-on n s x) ∙ total-all n (λ i. on (s i) (x i
 total-single : (n : ℕ) (s : ℕ → Bool) (x : ℕ → ℕ) (v : ℕ) → v < n → ((i : ℕ) → i < n → s i ≡ eqb i v) → total n s x ≡ x v
 total-single n s x v h only =
     let sums =
-        total-equal n s x (one v) (one v) 1 (x v) 0 (λ i l m. go i m (only i l) (eq-or-not i v)) in
+    total-equal n s x (one v) (one v) 1 (x v) 0 (λ i l m. go i m (only i l) (eq-or-not i v)) in
     let e = ap (λ k. k * x v) (total-one n s v h (only v h ∙ eq-eqb v v refl)) in
     omega arith
   where

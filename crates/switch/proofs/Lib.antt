@@ -4,7 +4,6 @@ pub mod Cells
 pub mod Search
 pub mod Rows
 pub mod Numbering
-pub mod RequestRows
 pub mod Within
 pub mod Grid
 pub mod Sharing

@@ -40,15 +40,18 @@ pub least-of-general : (r : Request) → Within r → (a : Rates) → Blank r a 
 least-of-general r w a blank least =
     record {
       least = λ z pos same.
-        least .least (general (blanked r z)) pos
-        (record {
+          least .least (general (blanked r z)) pos
+          (record {
             same =
-              by-cell r (λ c. a .numerator c * z .base ≡ blanked r z .numerator c * a .base)
-              (λ u v is. rw (agree-blanked r w z .flows u v is) at (same .same u v is))
-              (λ u v hu hv past.
-                omega (arith, ap (λ k. k * z .base) (blank .unused u v hu hv past),
-                    ap (λ k. k * a .base) (blank-blanked r w z .unused u v hu hv past)))
-          })
+                by-cell r (λ c. a .numerator c * z .base ≡ blanked r z .numerator c * a .base)
+                (λ u v is. rw (agree-blanked r w z .flows u v is) at (same .same u v is))
+                (λ u v hu hv past.
+                omega (
+                  arith,
+                  ap (λ k. k * z .base) (blank .unused u v hu hv past),
+                  ap (λ k. k * a .base) (blank-blanked r w z .unused u v hu hv past),
+                ));
+          });
     }
 
 -- Fair rates over their least base, laid out with their reasons, are a right plan.
@@ -61,11 +64,12 @@ right-planFrom r w b xs fair least long =
       least = least-of-general r w rates blank least;
       blank = blank;
       reasons = λ c h. cells-list 64 (reasonOf r rates) c h;
-      cells = (long, length-list 64 (reasonOf r rates))
+      cells = (long, length-list 64 (reasonOf r rates));
     }
   where
     rates : Rates
     rates = record { base = b; numerator = λ c. getD xs c 0 }
+
     blank : Blank r rates
     blank = blank-of-allowed r w rates (fair .allowed)
 
@@ -74,18 +78,22 @@ unfolding planOf planOfState
 right-planOf r w =
     right-planFrom r w (b / g) (divided g xs)
     (fair-of-same (problemOf r) (over b xs) (over (b / g) (divided g xs)) (divided-pos common (fair .allowed .positive))
-        (reduced-same (problemOf r) b g xs common) fair)
+    (reduced-same (problemOf r) b g xs common) fair)
     (reduced-least (problemOf r) b g xs common (fair .allowed .positive) (length-filled (problemOf r)))
     (length-map xs (λ x. x / g) ∙ length-filled (problemOf r))
   where
     b : ℕ
     b = filled (problemOf r) .base
+
     xs : List ℕ
     xs = filled (problemOf r) .fixed
+
     g : ℕ
     g = gcdOf b xs
+
     common : GcdOf b xs g
     common = gcdOf-is b xs
+
     fair : General.Fair (problemOf r) (over b xs)
     fair = fair-filled (problemOf r) (sound r w)
 
@@ -98,14 +106,14 @@ module _ (r : Request) (w : Within r) (p q : Plan) (rightP : Right r p) (rightQ 
   same-base =
       le-antisymm (rightP .least .least (ratesOf q) (rightQ .fair .allocation .positive) same)
       (rightQ .least .least (ratesOf p) (rightP .fair .allocation .positive)
-          (record { same = λ u v is. sym (same .same u v is) }))
+      (record { same = λ u v is. sym (same .same u v is) }))
 
   same-cell : (c : ℕ) → c < 64 → getD (p .numerators) c 0 ≡ getD (q .numerators) c 0
   same-cell =
       by-cell r (λ c. getD (p .numerators) c 0 ≡ getD (q .numerators) c 0)
       (λ u v is.
-        eq-of-mul-eq-mul-right (p .base) (rightP .fair .allocation .positive) _ _
-        (ap (λ k. flow (ratesOf p) u v * k) same-base ∙ same .same u v is))
+      eq-of-mul-eq-mul-right (p .base) (rightP .fair .allocation .positive) _ _
+      (ap (λ k. flow (ratesOf p) u v * k) same-base ∙ same .same u v is))
       (λ u v hu hv past. rightP .blank .unused u v hu hv past ∙ sym (rightQ .blank .unused u v hu hv past))
 
   same-numerators : p .numerators ≡ q .numerators
@@ -117,10 +125,10 @@ module _ (r : Request) (w : Within r) (p q : Plan) (rightP : Right r p) (rightQ 
   same-reasons =
       ext-getD 0 (p .reasons) (q .reasons) (rightP .cells .1 ∙ sym (rightQ .cells .1))
       (λ c h.
-        let low : c < 64 = rw (rightP .cells .1) at h in
-        rightP .reasons c low
-        ∙ ap₂ (λ b xs. reasonOf r (record { base = b; numerator = λ k. getD xs k 0 }) c) same-base same-numerators
-        ∙ sym (rightQ .reasons c low))
+      let low : c < 64 = rw (rightP .cells .1) at h in
+      rightP .reasons c low
+      ∙ ap₂ (λ b xs. reasonOf r (record { base = b; numerator = λ k. getD xs k 0 }) c) same-base same-numerators
+      ∙ sym (rightQ .reasons c low))
 
   pub right-unique : p ≡ q
   right-unique = λ i. record { base = same-base i; numerators = same-numerators i; reasons = same-reasons i }
@@ -133,7 +141,8 @@ all-weights = lit≤ tt
 -- 'base of a plan: 1 to 4,294,967,296'
 pub base-of-planOf : (r : Request) → Within r → (1 ≤ planOf r .base) × (planOf r .base ≤ 4_294_967_296)
 unfolding planOf planOfState planFrom
-base-of-planOf r w =
-    (right-planOf r w .fair .allocation .positive,
-     le-trans (div-le-self (filled (problemOf r) .base) _)
-        (base-fits (problemOf r) (sound r w) 16 64 4_294_967_296 (lit≤ tt) all-weights ports-bound))
+base-of-planOf r w = (
+  right-planOf r w .fair .allocation .positive,
+  le-trans (div-le-self (filled (problemOf r) .base) _)
+      (base-fits (problemOf r) (sound r w) 16 64 4_294_967_296 (lit≤ tt) all-weights ports-bound),
+)

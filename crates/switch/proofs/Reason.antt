@@ -35,13 +35,13 @@ module _ (r : Request) (a : Rates) (u : Input) (v : Output) where
   pub bottleneck-of-holds : inputHolds r a u v ≡ true → InputBottleneck r a u v
   bottleneck-of-holds e =
       let first = both-true (ltb (flow a u v) (demandOf r (cellOf u v) * a .base)
-          && eqb (inputTotal r a u) (inputCapacity r u * a .base)) _ e in
+      && eqb (inputTotal r a u) (inputCapacity r u * a .base)) _ e in
       let second = both-true (ltb (flow a u v) (demandOf r (cellOf u v) * a .base)) _ (first .0) in
       record {
         below = ltb-true _ _ (second .0);
         full = eqb-true _ _ (second .1);
         greatest = λ v' h.
-          leb-true _ _ (all-of-every (r .n) (λ k. leb (flow a u (output k)) (flow a u v)) (first .1) (v' .0) h)
+            leb-true _ _ (all-of-every (r .n) (λ k. leb (flow a u (output k)) (flow a u v)) (first .1) (v' .0) h);
       }
 
   pub holds-of-bottleneck : InputBottleneck r a u v → inputHolds r a u v ≡ true
@@ -72,15 +72,15 @@ module _ (r : Request) (a : Rates) (u : Input) (v : Output) where
 -- input is none and '(the output is)'.
 pub reason-says : (r : Request) → Within r → (a : Rates) → Fair r a → (u : Input) (v : Output) → Used r u v
     → ((flowReason r a u v ≡ 0) × (flow a u v ≡ demandOf r (cellOf u v) * a .base))
-        ⊎ (((flowReason r a u v ≡ 1) × InputBottleneck r a u v)
-            ⊎ ((flowReason r a u v ≡ 2) × OutputBottleneck r a u v × (InputBottleneck r a u v → ⊥)))
+    ⊎ (((flowReason r a u v ≡ 1) × InputBottleneck r a u v)
+    ⊎ ((flowReason r a u v ≡ 2) × OutputBottleneck r a u v × (InputBottleneck r a u v → ⊥)))
 reason-says r w a fair u v is = go (settled-when-fair r w a fair .each u v is) (true-or-false (inputHolds r a u v))
   where
     go : (flow a u v ≡ demandOf r (cellOf u v) * a .base) ⊎ (InputBottleneck r a u v ⊎ OutputBottleneck r a u v)
         → (inputHolds r a u v ≡ true) ⊎ (inputHolds r a u v ≡ false)
         → ((flowReason r a u v ≡ 0) × (flow a u v ≡ demandOf r (cellOf u v) * a .base))
-            ⊎ (((flowReason r a u v ≡ 1) × InputBottleneck r a u v)
-                ⊎ ((flowReason r a u v ≡ 2) × OutputBottleneck r a u v × (InputBottleneck r a u v → ⊥)))
+        ⊎ (((flowReason r a u v ≡ 1) × InputBottleneck r a u v)
+        ⊎ ((flowReason r a u v ≡ 2) × OutputBottleneck r a u v × (InputBottleneck r a u v → ⊥)))
     go (inl met) t = inl (reason-at-demand r a u v met, met)
     go (inr (inl neck)) t = inr (inl (reason-at-input r a u v neck, neck))
     go (inr (inr neck)) (inl e) =

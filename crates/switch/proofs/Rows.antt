@@ -1,13 +1,17 @@
 -- 'Given exactly when', for any list of rows: what a verdict says, and what it says of the rows.
-use Prim.Native.Nat.{ℕ}
+use Prim.Native.Nat.{ℕ, _+_, _≤_, _<_}
 use mathlib.Core.Logic.{_⊎_, inl, inr, _↔_}
 use mathlib.Core.Path.{_≡_, refl, sym, _∙_, ap, subst}
 use mathlib.Core.List.{List, [], _∷_, _++_, append-nil}
 use mathlib.Core.List.{List·Memᴰ, List·Memᴰ·head, List·Memᴰ·tail, List·Memᴰ·not-nil, List·Memᴰ·cases-cons}
+use mathlib.Core.Bool.{true, false}
+use native.Mathlib.Nat.{add-sub-cancel-left, le-dest}
 use native.Mathlib.Omega.{arith}
+use borrow.Author.Tests.{lt-ltb, le-ltb}
+use Rattle.fairness.proofs.Search.{le-or-lt}
 use Rattle.switch.specs.Given.{Silent, AllSilent, First, Applies, Gives}
 use Rattle.switch.specs.Numbering.{numberOf}
-use Rattle.switch.specs.Rows.{Row, at, nothing, firstOf, refusal, rowVerdict, orElse, verdictOf}
+use Rattle.switch.specs.Rows.{Row, joined, at, nothing, firstOf, refusal, verdictAt, rowVerdict, orElse, verdictOf}
 use Rattle.switch.specs.declared.verdict.Cause.{Cause}
 use Rattle.switch.specs.declared.verdict.Refusal.{Refusal}
 use Rattle.switch.specs.declared.verdict.Verdict.{Verdict}
@@ -40,6 +44,71 @@ silent-cons {row} {rows} s all x m = go (List·Memᴰ·cases-cons m)
     go : (x ≡ row) ⊎ List·Memᴰ x rows → Silent x
     go (inl e) = subst Silent (sym e) s
     go (inr l) = all x l
+
+-- A row in two parts of one cause says what the first part says, or else the second.
+module _ (a b : Row) where
+  low : (i : ℕ) → i < a .size → joined a b .offends i ≡ a .offends i
+  low i h = rw (lt-ltb i (a .size) h)
+
+  high : (j : ℕ) → joined a b .offends (a .size + j) ≡ b .offends j
+  high j = rw (le-ltb (a .size + j) (a .size) (omega arith), add-sub-cancel-left (a .size) j)
+
+  -- what holds of the first part's candidates and of the second's holds of all
+  by-part : (Q : ℕ → Type 0) → ((i : ℕ) → i < a .size → Q i) → ((j : ℕ) → j < b .size → Q (a .size + j))
+      → (i : ℕ) → i < a .size + b .size → Q i
+  by-part Q first second i h = go (le-or-lt (a .size) i)
+    where
+      go : (a .size ≤ i) ⊎ (i < a .size) → Q i
+      go (inr l) = first i l
+      go (inl l) = let (j, e) = le-dest l in subst Q e (second j (omega arith))
+
+  pub silent-joined : Silent a → Silent b → Silent (joined a b)
+  silent-joined sa sb =
+      by-part (λ i. joined a b .offends i ≡ false) (λ i h. low i h ∙ sa i h) (λ j h. high j ∙ sb j h)
+
+  pub silent-first : Silent (joined a b) → Silent a
+  silent-first s i h = sym (low i h) ∙ s i (omega arith)
+
+  pub silent-second : Silent (joined a b) → Silent b
+  silent-second s j h = sym (high j) ∙ s (a .size + j) (omega arith)
+
+  first-of-first : (i : ℕ) → First a i → First (joined a b) i
+  first-of-first i f =
+      record {
+        below = let h = f .below in omega arith;
+        here = low i (f .below) ∙ f .here;
+        earlier = λ k l. low k (let h = f .below in omega arith) ∙ f .earlier k l;
+      }
+
+  first-of-second : (j : ℕ) → Silent a → First b j → First (joined a b) (a .size + j)
+  first-of-second j s f =
+      record {
+        below = let h = f .below in omega arith;
+        here = high j ∙ f .here;
+        earlier = λ k l.
+            by-part (λ i. i < a .size + j → joined a b .offends i ≡ false) (λ i h t. low i h ∙ s i h)
+            (λ i h t. high i ∙ f .earlier i (omega arith)) k (let h = f .below in omega arith) l;
+      }
+
+  pub joined-verdict : a .cause ≡ b .cause → rowVerdict (joined a b) ≡ orElse (rowVerdict a) (rowVerdict b)
+  unfolding rowVerdict
+  joined-verdict same = go (silent-or-first a) (silent-or-first b)
+    where
+      go : Silent a ⊎ ((i : ℕ) × First a i) → Silent b ⊎ ((j : ℕ) × First b j)
+          → verdictAt (joined a b) (firstOf (joined a b)) ≡ orElse (verdictAt a (firstOf a)) (verdictAt b (firstOf b))
+      go (inr (i, f)) t =
+          rw (at-of-first (joined a b) (first-of-first i f), at-of-first a f, lt-ltb i (a .size) (f .below))
+      go (inl s) (inr (j, f)) =
+          rw (
+            at-of-first (joined a b) (first-of-second j s f),
+            nothing-of-silent a s,
+            at-of-first b f,
+            le-ltb (a .size + j) (a .size) (omega arith),
+            add-sub-cancel-left (a .size) j,
+            same,
+          )
+      go (inl s) (inl t) =
+          rw (nothing-of-silent (joined a b) (silent-joined s t), nothing-of-silent a s, nothing-of-silent b t)
 
 -- Silent rows leave it to what follows them.
 verdict-past-all : (before rest : List Row) → AllSilent before → verdictOf (before ++ rest) ≡ verdictOf rest

@@ -80,8 +80,8 @@ module _ (r : Request) (w : Within r) where
   blank-of-allowed a ok =
       record {
         unused = λ u v hu hv past.
-          let top = ok .bounded .atMost (cellOf u v) (omega arith) in
-          omega (arith, ap (λ k. k * a .base) (w .unused-cell u v hu hv past))
+            let top = ok .bounded .atMost (cellOf u v) (omega arith) in
+            omega (arith, ap (λ k. k * a .base) (w .unused-cell u v hu hv past));
       }
 
   pub allocation-of-allowed : (a : Rates) → General.Allowed (problemOf r) (general a) → Allocation r a
@@ -89,19 +89,19 @@ module _ (r : Request) (w : Within r) where
       record {
         positive = ok .positive;
         feasible =
-          record {
-            inputs = λ u h.
-              let low : u .0 < 8 = omega (arith, w .inputs .1) in
-              rw (across-input a blank u low, capacity-input u low) at (ok .feasible .room (inputLimit u) (omega arith));
-            outputs = λ v h.
-              let low : v .0 < 8 = omega (arith, w .outputs .1) in
-              rw (across-output a blank v low, capacity-output v) at (ok .feasible .room (outputLimit v) (omega arith))
-          };
+            record {
+              inputs = λ u h.
+                  let low : u .0 < 8 = omega (arith, w .inputs .1) in
+                  rw (across-input a blank u low, capacity-input u low) at (ok .feasible .room (inputLimit u) (omega arith));
+              outputs = λ v h.
+                  let low : v .0 < 8 = omega (arith, w .outputs .1) in
+                  rw (across-output a blank v low, capacity-output v) at (ok .feasible .room (outputLimit v) (omega arith));
+            };
         bounded =
-          record {
-            demands = λ u v used.
-              let low = below-eight u v used in ok .bounded .atMost (cellOf u v) (omega arith)
-          }
+            record {
+              demands = λ u v used.
+                  let low = below-eight u v used in ok .bounded .atMost (cellOf u v) (omega arith);
+            };
       }
     where
       blank : Blank r a
@@ -116,30 +116,37 @@ module _ (r : Request) (w : Within r) where
       record {
         positive = ok .positive;
         feasible =
-          record {
-            room =
-              by-limit (λ l. across (problemOf r) l (a .numerator) ≤ capacityOf r l * a .base)
-              (λ u h. rw (across-input a blank u h, capacity-input u h) (input-room u h (le-or-lt (r .m) (u .0))))
-              (λ v h. rw (across-output a blank v h, capacity-output v) (output-room v h (le-or-lt (r .n) (v .0))))
-          };
+            record {
+              room =
+                  by-limit (λ l. across (problemOf r) l (a .numerator) ≤ capacityOf r l * a .base)
+                  (λ u h. rw (across-input a blank u h, capacity-input u h) (input-room u h (le-or-lt (r .m) (u .0))))
+                  (λ v h. rw (across-output a blank v h, capacity-output v) (output-room v h (le-or-lt (r .n) (v .0))));
+            };
         bounded =
-          record {
-            atLeast = λ c h. omega arith;
-            atMost =
-              by-cell r (λ c. a .numerator c ≤ demandOf r c * a .base) (ok .bounded .demands)
-              (λ u v hu hv past. omega (arith, blank .unused u v hu hv past))
-          }
+            record {
+              atLeast = λ c h. omega arith;
+              atMost =
+                  by-cell r (λ c. a .numerator c ≤ demandOf r c * a .base) (ok .bounded .demands)
+                  (λ u v hu hv past. omega (arith, blank .unused u v hu hv past));
+            };
       }
     where
       input-room : (u : Input) → u .0 < 8 → (r .m ≤ u .0) ⊎ (u .0 < r .m) → inputTotal r a u ≤ inputCapacity r u * a .base
       input-room u h (inl past) =
-          omega (arith, none (r .n) (λ j. flow a u (output j))
-              (λ j l. blank .unused u (output j) h (omega (arith, w .outputs .1)) (inl past)))
+          omega (
+            arith,
+            none (r .n) (λ j. flow a u (output j))
+                (λ j l. blank .unused u (output j) h (omega (arith, w .outputs .1)) (inl past)),
+          )
       input-room u h (inr l) = ok .feasible .inputs u l
+
       output-room : (v : Output) → v .0 < 8 → (r .n ≤ v .0) ⊎ (v .0 < r .n) → outputTotal r a v ≤ outputCapacity r v * a .base
       output-room v h (inl past) =
-          omega (arith, none (r .m) (λ j. flow a (input j) v)
-              (λ j l. blank .unused (input j) v (omega (arith, w .inputs .1)) h (inr past)))
+          omega (
+            arith,
+            none (r .m) (λ j. flow a (input j) v)
+                (λ j l. blank .unused (input j) v (omega (arith, w .inputs .1)) h (inr past)),
+          )
       output-room v h (inr l) = ok .feasible .outputs v l
 
   -- Bottlenecks are the same.
@@ -159,10 +166,10 @@ module _ (r : Request) (w : Within r) where
           below = neck .below;
           full = rw (across-input a blank u (low .0), capacity-input u (low .0)) at (neck .full);
           greatest = λ v' h.
-            let lv : v' .0 < 8 = omega (arith, w .outputs .1) in
-            at-most (cellOf u v')
-            (neck .highest (cellOf u v') (omega (arith, low .0))
-                (passes-input (u .0) (u .0) (v' .0) (low .0) (low .0) lv ∙ eq-eqb (u .0) (u .0) refl))
+              let lv : v' .0 < 8 = omega (arith, w .outputs .1) in
+              at-most (cellOf u v')
+              (neck .highest (cellOf u v') (omega (arith, low .0))
+              (passes-input (u .0) (u .0) (v' .0) (low .0) (low .0) lv ∙ eq-eqb (u .0) (u .0) refl));
         }
 
     output-of-general : General.Bottleneck (problemOf r) (general a) (outputLimit v) (cellOf u v) → OutputBottleneck r a u v
@@ -171,10 +178,10 @@ module _ (r : Request) (w : Within r) where
           below = neck .below;
           full = rw (across-output a blank v (low .1), capacity-output v) at (neck .full);
           greatest = λ u' h.
-            let lu : u' .0 < 8 = omega (arith, w .inputs .1) in
-            at-most (cellOf u' v)
-            (neck .highest (cellOf u' v) (omega (arith, low .1))
-                (passes-output (v .0) (u' .0) (v .0) (low .1) lu (low .1) ∙ eq-eqb (v .0) (v .0) refl))
+              let lu : u' .0 < 8 = omega (arith, w .inputs .1) in
+              at-most (cellOf u' v)
+              (neck .highest (cellOf u' v) (omega (arith, low .1))
+              (passes-output (v .0) (u' .0) (v .0) (low .1) lu (low .1) ∙ eq-eqb (v .0) (v .0) refl));
         }
 
     abbrev Lower : ℕ → Type 0
@@ -190,14 +197,14 @@ module _ (r : Request) (w : Within r) where
           below = neck .below;
           full = rw (across-input a blank u (low .0), capacity-input u (low .0)) (neck .full);
           highest =
-            by-cell r (λ g. passes (inputLimit u) g ≡ true → Lower g) lower (λ u' v' hu hv past e. lower-of-blank u' v' hu hv past)
+              by-cell r (λ g. passes (inputLimit u) g ≡ true → Lower g) lower (λ u' v' hu hv past e. lower-of-blank u' v' hu hv past);
         }
       where
         lower : (u' : Input) (v' : Output) → Used r u' v' → passes (inputLimit u) (cellOf u' v') ≡ true → Lower (cellOf u' v')
         lower u' v' is' e =
             let l' = below-eight u' v' is' in
             let same : u' .0 ≡ u .0 =
-                eqb-true (u' .0) (u .0) (sym (passes-input (u .0) (u' .0) (v' .0) (low .0) (l' .0) (l' .1)) ∙ e) in
+            eqb-true (u' .0) (u .0) (sym (passes-input (u .0) (u' .0) (v' .0) (low .0) (l' .0) (l' .1)) ∙ e) in
             inl (rw same (omega (arith, neck .greatest v' (is' .output))))
 
     general-of-output : OutputBottleneck r a u v → General.Bottleneck (problemOf r) (general a) (outputLimit v) (cellOf u v)
@@ -207,14 +214,14 @@ module _ (r : Request) (w : Within r) where
           below = neck .below;
           full = rw (across-output a blank v (low .1), capacity-output v) (neck .full);
           highest =
-            by-cell r (λ g. passes (outputLimit v) g ≡ true → Lower g) lower (λ u' v' hu hv past e. lower-of-blank u' v' hu hv past)
+              by-cell r (λ g. passes (outputLimit v) g ≡ true → Lower g) lower (λ u' v' hu hv past e. lower-of-blank u' v' hu hv past);
         }
       where
         lower : (u' : Input) (v' : Output) → Used r u' v' → passes (outputLimit v) (cellOf u' v') ≡ true → Lower (cellOf u' v')
         lower u' v' is' e =
             let l' = below-eight u' v' is' in
             let same : v' .0 ≡ v .0 =
-                eqb-true (v' .0) (v .0) (sym (passes-output (v .0) (u' .0) (v' .0) (low .1) (l' .0) (l' .1)) ∙ e) in
+            eqb-true (v' .0) (v .0) (sym (passes-output (v .0) (u' .0) (v' .0) (low .1) (l' .0) (l' .1)) ∙ e) in
             inl (rw same (omega (arith, neck .greatest u' (is' .input))))
 
     -- f has a bottleneck at one of the problem's limits exactly when its input or its output is one
@@ -225,18 +232,18 @@ module _ (r : Request) (w : Within r) where
     held-at =
         by-limit (λ l. General.Bottleneck (problemOf r) (general a) l (cellOf u v) → Held)
         (λ u' h neck.
-          let same : u .0 ≡ u' .0 =
-              eqb-true (u .0) (u' .0) (sym (passes-input (u' .0) (u .0) (v .0) h (low .0) (low .1)) ∙ neck .passes) in
-          inl (input-of-general (rw (← same) at neck)))
+        let same : u .0 ≡ u' .0 =
+        eqb-true (u .0) (u' .0) (sym (passes-input (u' .0) (u .0) (v .0) h (low .0) (low .1)) ∙ neck .passes) in
+        inl (input-of-general (rw (← same) at neck)))
         (λ v' h neck.
-          let same : v .0 ≡ v' .0 =
-              eqb-true (v .0) (v' .0) (sym (passes-output (v' .0) (u .0) (v .0) h (low .0) (low .1)) ∙ neck .passes) in
-          inr (output-of-general (rw (← same) at neck)))
+        let same : v .0 ≡ v' .0 =
+        eqb-true (v .0) (v' .0) (sym (passes-output (v' .0) (u .0) (v .0) h (low .0) (low .1)) ∙ neck .passes) in
+        inr (output-of-general (rw (← same) at neck)))
 
     pub settled-of-general : General.SettledAt (problemOf r) (general a) (cellOf u v)
         → (flow a u v ≡ demandOf r (cellOf u v) * a .base) ⊎ Held
     settled-of-general (inl met) = inl met
-    settled-of-general (inr (l , hl , neck)) = inr (held-at l hl neck)
+    settled-of-general (inr (l, hl, neck)) = inr (held-at l hl neck)
 
     pub general-of-settled : (flow a u v ≡ demandOf r (cellOf u v) * a .base) ⊎ Held
         → General.SettledAt (problemOf r) (general a) (cellOf u v)

@@ -1,19 +1,10 @@
 -- Laws of tests joined by 'and', and of a number that may not pass a bound where a test holds.
-use Prim.Native.Nat.{ℕ, _≤_, _<_}
-use mathlib.Core.Logic.{_⊎_, inl, inr}
+use Prim.Native.Nat.{ℕ, _≤_}
 use mathlib.Core.Path.{_≡_, refl, _∙_, ap}
 use mathlib.Core.Bool.{Bool, true, false, _&&_}
 use lib.Dec.{ltb}
-use borrow.Author.Tests.{le-ltb, ltb-true, ltb-false}
+use borrow.Author.Tests.{le-ltb, ltb-false}
 use Rattle.switch.specs.RequestRows.{above}
-
-pub and-left : (a b : Bool) → (a && b) ≡ true → a ≡ true
-and-left true b e = refl
-and-left false b e = e
-
-pub and-right : (a b : Bool) → (a && b) ≡ true → b ≡ true
-and-right true b e = e
-and-right false b e = cc
 
 pub and-false-of : (a b : Bool) → (a ≡ true → b ≡ false) → (a && b) ≡ false
 and-false-of true b h = h refl
@@ -22,13 +13,6 @@ and-false-of false b h = refl
 pub second-false : (a b : Bool) → (a && b) ≡ false → a ≡ true → b ≡ false
 second-false true b e h = e
 second-false false b e h = cc
-
-pub below-or-past : (i k : ℕ) → (i < k) ⊎ (k ≤ i)
-below-or-past i k = go (ltb i k) refl
-  where
-    go : (b : Bool) → ltb i k ≡ b → (i < k) ⊎ (k ≤ i)
-    go true e = inl (ltb-true i k e)
-    go false e = inr (ltb-false i k e)
 
 pub le-of-not-above : (b : Bool) (most x : ℕ) → above b most x ≡ false → b ≡ true → x ≤ most
 le-of-not-above b most x e h = ltb-false most x (second-false b (ltb most x) e h)

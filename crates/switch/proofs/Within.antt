@@ -1,177 +1,107 @@
 -- A request is accepted exactly when it is within the limits.
-use Prim.Native.Nat.{ℕ, _+_, _-_, _≤_, _<_}
-use mathlib.Core.Logic.{_⊎_, ⊎-elim}
+use Prim.Native.Nat.{ℕ, _+_, _≤_, _<_}
+use mathlib.Core.Logic.{_⊎_, inl, inr}
 use mathlib.Core.Path.{_≡_, refl, sym, _∙_, ap, subst}
 use mathlib.Core.Bool.{false, true, not, _&&_}
 use mathlib.Core.List.{List·Memᴰ·head, List·Memᴰ·tail}
 use native.Mathlib.Omega.{arith}
-use lib.Dec.{leb}
+use lib.Dec.{leb, ltb}
 use borrow.Author.Tests.{lt-ltb, le-ltb, le-leb, ltb-true, ltb-false, leb-true, not-true, not-false}
-use Rattle.switch.specs.Cells.{
-  input,
-  output,
-  cellOf,
-  inputOf,
-  outputOf,
-  inputUsed,
-  outputUsed,
-  used,
-  usedCell,
-  inputCapacity,
-  outputCapacity,
-  demandOf,
-}
+use Rattle.fairness.proofs.Search.{le-or-lt, both-true}
+use Rattle.switch.specs.Cells.{input, output, cellOf, inputOf, outputOf, inputUsed, outputUsed, used, usedCell}
+use Rattle.switch.specs.Cells.{inputCapacity, outputCapacity, demandOf}
 use Rattle.switch.specs.Given.{Silent, AllSilent}
-use Rattle.switch.specs.RequestRows.{
-  outside,
-  portsOffend,
-  portsRow,
-  inputAbove,
-  outputAbove,
-  capacityRow,
-  demandRow,
-  inputNotZero,
-  outputNotZero,
-  cellNotZero,
-  notZeroRow,
-  requestRows,
-  requestVerdict,
-}
+use Rattle.switch.specs.RequestRows.{outside, portsRow, inputsAbove, outputsAbove, capacityRow, demandRow}
+use Rattle.switch.specs.RequestRows.{inputsNotZero, outputsNotZero, cellsNotZero, notZeroRow, requestRows, requestVerdict}
+use Rattle.switch.specs.Rows.{joined}
+use Rattle.switch.specs.Within
 use Rattle.switch.specs.Within.{Within}
 use Rattle.switch.specs.declared.port.Input.{Input}
 use Rattle.switch.specs.declared.port.Output.{Output}
 use Rattle.switch.specs.declared.request.Request.{Request}
 use Rattle.switch.specs.declared.verdict.Verdict.the-variants.{Accepted}
-use Rattle.switch.proofs.Cells.{
-  cell-below,
-  cell-of-ports,
-  below-of-used,
-  used-of-below,
-  unused-of-past,
-  past-of-unused,
-  usedCell-of-ports,
-  usedCell-of-cell,
-}
-use Rattle.switch.proofs.RequestRows.{
-  capacity-of-input,
-  capacity-of-output,
-  notZero-of-input,
-  notZero-of-output,
-  notZero-of-cell,
-}
-use Rattle.switch.proofs.Rows.{silent-nil, silent-cons, accepted-exactly}
-use Rattle.switch.proofs.Tests.{and-left, and-right, below-or-past, le-of-not-above, not-above-of-le}
+use Rattle.switch.proofs.Cells.{cell-below, cell-of-ports, below-of-used, used-of-below, unused-of-past, past-of-unused}
+use Rattle.switch.proofs.Cells.{usedCell-of-ports, usedCell-of-cell}
+use Rattle.switch.proofs.Rows.{silent-nil, silent-cons, silent-joined, silent-first, silent-second, accepted-exactly}
+use Rattle.switch.proofs.Tests.{le-of-not-above, not-above-of-le}
 
 inside-of-not-outside : (k : ℕ) → outside k ≡ false → (1 ≤ k) × (k ≤ 8)
 inside-of-not-outside k e =
-    let both = not-false (leb 1 k && leb k 8) e in
-    (leb-true 1 k (and-left (leb 1 k) (leb k 8) both), leb-true k 8 (and-right (leb 1 k) (leb k 8) both))
+    let both = both-true (leb 1 k) (leb k 8) (not-false (leb 1 k && leb k 8) e) in
+    (leb-true 1 k (both .0), leb-true k 8 (both .1))
 
 not-outside-of-inside : (k : ℕ) → (1 ≤ k) × (k ≤ 8) → outside k ≡ false
 not-outside-of-inside k (low, high) = simp (le-leb 1 k low, le-leb k 8 high)
 
+zero-of-le : {k : ℕ} → k ≤ 0 → k ≡ 0
+zero-of-le h = omega arith
+
 -- From silent rows to the limits.
-module _ (r : Request) where
-  module _ (all : AllSilent (requestRows r)) where
-    ports : Silent (portsRow r)
-    ports = all (portsRow r) (List·Memᴰ·head refl)
+module _ (r : Request) (all : AllSilent (requestRows r)) where
+  ports : Silent (portsRow r)
+  ports = all (portsRow r) (List·Memᴰ·head refl)
 
-    capacities : Silent (capacityRow r)
-    capacities = all (capacityRow r) (List·Memᴰ·tail (List·Memᴰ·head refl))
+  capacities : Silent (capacityRow r)
+  capacities = all (capacityRow r) (List·Memᴰ·tail (List·Memᴰ·head refl))
 
-    demands : Silent (demandRow r)
-    demands = all (demandRow r) (List·Memᴰ·tail (List·Memᴰ·tail (List·Memᴰ·head refl)))
+  demands : Silent (demandRow r)
+  demands = all (demandRow r) (List·Memᴰ·tail (List·Memᴰ·tail (List·Memᴰ·head refl)))
 
-    zeros : Silent (notZeroRow r)
-    zeros = all (notZeroRow r) (List·Memᴰ·tail (List·Memᴰ·tail (List·Memᴰ·tail (List·Memᴰ·head refl))))
+  zeros : Silent (notZeroRow r)
+  zeros = all (notZeroRow r) (List·Memᴰ·tail (List·Memᴰ·tail (List·Memᴰ·tail (List·Memᴰ·head refl))))
 
-    inputs-of-silent : (1 ≤ r .m) × (r .m ≤ 8)
-    unfolding portsOffend
-    inputs-of-silent = inside-of-not-outside (r .m) (ports 0 (omega arith))
+  later-zeros : Silent (joined (outputsNotZero r) (cellsNotZero r))
+  later-zeros = silent-second (inputsNotZero r) (joined (outputsNotZero r) (cellsNotZero r)) zeros
 
-    outputs-of-silent : (1 ≤ r .n) × (r .n ≤ 8)
-    unfolding portsOffend
-    outputs-of-silent = inside-of-not-outside (r .n) (ports 1 (omega arith))
+  inputs : (1 ≤ r .m) × (r .m ≤ 8)
+  inputs = inside-of-not-outside (r .m) (ports 0 (omega arith))
 
-    input-capacity-of-silent : (u : Input) → u .0 < r .m → inputCapacity r u ≤ 16_777_216
-    input-capacity-of-silent u h =
-        let low : u .0 < 8 = omega (arith, inputs-of-silent) in
-        le-of-not-above (inputUsed r u) _ _ (sym (capacity-of-input r u low) ∙ capacities (u .0) (omega arith)) (lt-ltb (u .0) (r .m) h)
+  outputs : (1 ≤ r .n) × (r .n ≤ 8)
+  outputs = inside-of-not-outside (r .n) (ports 1 (omega arith))
 
-    output-capacity-of-silent : (v : Output) → v .0 < r .n → outputCapacity r v ≤ 16_777_216
-    output-capacity-of-silent v h =
-        le-of-not-above (outputUsed r v) _ _
-        (sym (capacity-of-output r (8 + v .0) v refl) ∙ capacities (8 + v .0) (omega (arith, outputs-of-silent)))
-        (lt-ltb (v .0) (r .n) h)
-
-    demand-of-silent : (u : Input) (v : Output) → u .0 < r .m → v .0 < r .n → demandOf r (cellOf u v) ≤ 16_777_216
-    demand-of-silent u v hu hv =
-        let lu : u .0 < 8 = omega (arith, inputs-of-silent) in
-        let lv : v .0 < 8 = omega (arith, outputs-of-silent) in
-        le-of-not-above (usedCell r (cellOf u v)) _ _ (demands (cellOf u v) (cell-below u v lu lv))
-        (usedCell-of-cell r u v lu lv ∙ used-of-below r u v hu hv)
-
-    unused-input-of-silent : (u : Input) → r .m ≤ u .0 → u .0 < 8 → inputCapacity r u ≡ 0
-    unused-input-of-silent u past h =
-        let none : inputCapacity r u ≤ 0 =
-        le-of-not-above (not (inputUsed r u)) _ _ (sym (notZero-of-input r u h) ∙ zeros (u .0) (omega arith))
-        (ap not (le-ltb (u .0) (r .m) past)) in
-        omega arith
-
-    unused-output-of-silent : (v : Output) → r .n ≤ v .0 → v .0 < 8 → outputCapacity r v ≡ 0
-    unused-output-of-silent v past h =
-        let none : outputCapacity r v ≤ 0 =
-        le-of-not-above (not (outputUsed r v)) _ _
-        (sym (notZero-of-output r (8 + v .0) v h refl) ∙ zeros (8 + v .0) (omega arith))
-        (ap not (le-ltb (v .0) (r .n) past)) in
-        omega arith
-
-    unused-cell-of-silent : (u : Input) (v : Output)
-        → u .0 < 8
-        → v .0 < 8
-        → (r .m ≤ u .0) ⊎ (r .n ≤ v .0)
-        → demandOf r (cellOf u v) ≡ 0
-    unused-cell-of-silent u v hu hv past =
-        let below = cell-below u v hu hv in
-        let none : demandOf r (cellOf u v) ≤ 0 =
-        le-of-not-above (not (usedCell r (cellOf u v))) _ _
-        (sym (notZero-of-cell r (16 + cellOf u v) (cellOf u v) refl) ∙ zeros (16 + cellOf u v) (omega arith))
-        (ap not (usedCell-of-cell r u v hu hv ∙ unused-of-past r u v past)) in
-        omega arith
-
-  within-of-silent : AllSilent (requestRows r) → Within r
-  within-of-silent all =
+  within-of-silent : Within r
+  within-of-silent =
       record {
-        inputs = inputs-of-silent all;
-        outputs = outputs-of-silent all;
-        input-capacity = input-capacity-of-silent all;
-        output-capacity = output-capacity-of-silent all;
-        demand = demand-of-silent all;
-        unused-input = unused-input-of-silent all;
-        unused-output = unused-output-of-silent all;
-        unused-cell = unused-cell-of-silent all;
+        inputs = inputs;
+        outputs = outputs;
+        input-capacity = λ u h.
+            le-of-not-above (inputUsed r u) 16_777_216 (inputCapacity r u)
+            (silent-first (inputsAbove r) (outputsAbove r) capacities (u .0) (omega (arith, inputs))) (lt-ltb (u .0) (r .m) h);
+        output-capacity = λ v h.
+            le-of-not-above (outputUsed r v) 16_777_216 (outputCapacity r v)
+            (silent-second (inputsAbove r) (outputsAbove r) capacities (v .0) (omega (arith, outputs))) (lt-ltb (v .0) (r .n) h);
+        demand = λ u v hu hv.
+            let lu : u .0 < 8 = omega (arith, inputs) in
+            let lv : v .0 < 8 = omega (arith, outputs) in
+            le-of-not-above (usedCell r (cellOf u v)) 16_777_216 (demandOf r (cellOf u v))
+            (demands (cellOf u v) (cell-below u v lu lv)) (usedCell-of-cell r u v lu lv ∙ used-of-below r u v hu hv);
+        unused-input = λ u past h.
+            zero-of-le (le-of-not-above (not (inputUsed r u)) 0 (inputCapacity r u)
+            (silent-first (inputsNotZero r) (joined (outputsNotZero r) (cellsNotZero r)) zeros (u .0) h)
+            (ap not (le-ltb (u .0) (r .m) past)));
+        unused-output = λ v past h.
+            zero-of-le (le-of-not-above (not (outputUsed r v)) 0 (outputCapacity r v)
+            (silent-first (outputsNotZero r) (cellsNotZero r) later-zeros (v .0) h) (ap not (le-ltb (v .0) (r .n) past)));
+        unused-cell = λ u v hu hv past.
+            zero-of-le (le-of-not-above (not (usedCell r (cellOf u v))) 0 (demandOf r (cellOf u v))
+            (silent-second (outputsNotZero r) (cellsNotZero r) later-zeros (cellOf u v) (cell-below u v hu hv))
+            (ap not (usedCell-of-cell r u v hu hv ∙ unused-of-past r u v past)));
       }
 
 -- From the limits to silent rows.
 module _ (r : Request) (w : Within r) where
   ports-silent : Silent (portsRow r)
-  unfolding portsOffend
-  ports-silent i h =
-      ⊎-elim (λ l. rw (lt-ltb i 1 l) (not-outside-of-inside (r .m) (w .inputs)))
-      (λ l. rw (le-ltb i 1 l) (not-outside-of-inside (r .n) (w .outputs))) (below-or-past i 1)
-
-  input-not-above : (u : Input) → inputAbove r u ≡ false
-  input-not-above u =
-      not-above-of-le (inputUsed r u) 16_777_216 (inputCapacity r u) (λ e. w .input-capacity u (ltb-true (u .0) (r .m) e))
-
-  output-not-above : (v : Output) → outputAbove r v ≡ false
-  output-not-above v =
-      not-above-of-le (outputUsed r v) 16_777_216 (outputCapacity r v) (λ e. w .output-capacity v (ltb-true (v .0) (r .n) e))
+  ports-silent i h = go (le-or-lt 1 i)
+    where
+      go : (1 ≤ i) ⊎ (i < 1) → portsRow r .offends i ≡ false
+      go (inr l) = rw (lt-ltb i 1 l) (not-outside-of-inside (r .m) (w .inputs))
+      go (inl l) = rw (le-ltb i 1 l) (not-outside-of-inside (r .n) (w .outputs))
 
   capacities-silent : Silent (capacityRow r)
-  capacities-silent i h =
-      ⊎-elim (λ l. capacity-of-input r (input i) l ∙ input-not-above (input i))
-      (λ l. capacity-of-output r i (output (i - 8)) (omega arith) ∙ output-not-above (output (i - 8))) (below-or-past i 8)
+  capacities-silent =
+      silent-joined (inputsAbove r) (outputsAbove r)
+      (λ i h. not-above-of-le (ltb i (r .m)) 16_777_216 _ (λ e. w .input-capacity (input i) (ltb-true i (r .m) e)))
+      (λ i h. not-above-of-le (ltb i (r .n)) 16_777_216 _ (λ e. w .output-capacity (output i) (ltb-true i (r .n) e)))
 
   demands-silent : Silent (demandRow r)
   demands-silent c h = not-above-of-le (usedCell r c) 16_777_216 (demandOf r c) (λ e. go (sym (usedCell-of-ports r c h) ∙ e))
@@ -181,34 +111,25 @@ module _ (r : Request) (w : Within r) where
           let (below-m, below-n) = below-of-used r (inputOf c) (outputOf c) e in
           subst (λ (k : ℕ). demandOf r k ≤ 16_777_216) (cell-of-ports c h) (w .demand (inputOf c) (outputOf c) below-m below-n)
 
-  input-zero : (u : Input) → u .0 < 8 → inputNotZero r u ≡ false
-  input-zero u h =
-      not-above-of-le (not (inputUsed r u)) 0 (inputCapacity r u)
-      (λ e. omega (arith, w .unused-input u (ltb-false (u .0) (r .m) (not-true (inputUsed r u) e)) h))
-
-  output-zero : (v : Output) → v .0 < 8 → outputNotZero r v ≡ false
-  output-zero v h =
-      not-above-of-le (not (outputUsed r v)) 0 (outputCapacity r v)
-      (λ e. omega (arith, w .unused-output v (ltb-false (v .0) (r .n) (not-true (outputUsed r v) e)) h))
-
-  cell-zero : (c : ℕ) → c < 64 → cellNotZero r c ≡ false
-  cell-zero c h =
+  cells-silent : Silent (cellsNotZero r)
+  cells-silent c h =
       not-above-of-le (not (usedCell r c)) 0 (demandOf r c)
       (λ e. go (sym (usedCell-of-ports r c h) ∙ not-true (usedCell r c) e))
     where
       go : used r (inputOf c) (outputOf c) ≡ false → demandOf r c ≤ 0
       go e =
-          let zero-there =
-          w .unused-cell (inputOf c) (outputOf c) (omega arith) (omega arith) (past-of-unused r (inputOf c) (outputOf c) e) in
+          let none = w .unused-cell (inputOf c) (outputOf c) (omega arith) (omega arith) (past-of-unused r (inputOf c) (outputOf c) e) in
           subst (λ (k : ℕ). demandOf r k ≤ 0) (cell-of-ports c h) (omega arith)
 
   zeros-silent : Silent (notZeroRow r)
-  zeros-silent i h =
-      ⊎-elim (λ l. notZero-of-input r (input i) l ∙ input-zero (input i) l)
-      (λ l.
-      ⊎-elim (λ k. notZero-of-output r i (output (i - 8)) (omega arith) (omega arith) ∙ output-zero (output (i - 8)) (omega arith))
-      (λ k. notZero-of-cell r i (i - 16) (omega arith) ∙ cell-zero (i - 16) (omega arith)) (below-or-past i 16))
-      (below-or-past i 8)
+  zeros-silent =
+      silent-joined (inputsNotZero r) (joined (outputsNotZero r) (cellsNotZero r))
+      (λ i h. not-above-of-le (not (ltb i (r .m))) 0 (inputCapacity r (input i))
+      (λ e. omega (arith, w .unused-input (input i) (ltb-false i (r .m) (not-true (ltb i (r .m)) e)) h)))
+      (silent-joined (outputsNotZero r) (cellsNotZero r)
+      (λ i h. not-above-of-le (not (ltb i (r .n))) 0 (outputCapacity r (output i))
+      (λ e. omega (arith, w .unused-output (output i) (ltb-false i (r .n) (not-true (ltb i (r .n)) e)) h)))
+      cells-silent)
 
   silent-of-within : AllSilent (requestRows r)
   silent-of-within =

@@ -11,4 +11,5 @@ pub mod Numbering
 pub mod Rows
 pub mod Given
 pub mod RequestRows
+pub mod Tables
 pub mod Drawn

@@ -40,7 +40,7 @@ problemOf r =
       capacity = capacityOf r;
       demand = demandOf r;
       minimum = λ c. 0;
-      weight = λ c. 1
+      weight = λ c. 1;
     }
 
 -- Rates, laid out as a plan with the reasons they have.
@@ -49,7 +49,7 @@ planFrom r b xs =
     record {
       base = b;
       numerators = xs;
-      reasons = list 64 (reasonOf r (record { base = b; numerator = λ c. getD xs c 0 }))
+      reasons = list 64 (reasonOf r (record { base = b; numerator = λ c. getD xs c 0 }));
     }
 
 -- The filled state, divided by the greatest common divisor of its base and numerators.

@@ -1,7 +1,8 @@
 -- A row of the refusal table, as a test over its candidates, and the verdict that a list of rows gives.
-use Prim.Native.Nat.{ℕ, zero, suc}
-use mathlib.Core.Bool.{Bool, true, false}
+use Prim.Native.Nat.{ℕ, zero, suc, _+_, _-_}
+use mathlib.Core.Bool.{Bool, true, false, cond}
 use mathlib.Core.List.{List, [], _∷_}
+use lib.Dec.{ltb}
 use Rattle.switch.specs.declared.verdict.Cause.{Cause}
 use Rattle.switch.specs.declared.verdict.Verdict.{Verdict}
 use Rattle.switch.specs.declared.verdict.Verdict.the-variants.{Accepted, Refused}
@@ -13,6 +14,16 @@ pub record Row : Type 0 where
   pub size : ℕ
   pub offends : ℕ → Bool
   pub place : ℕ → ℕ
+
+-- A row in two parts: the candidates of the first, and after them those of the second.
+abbrev pub joined : Row → Row → Row
+joined a b =
+    record {
+      cause = a .cause;
+      size = a .size + b .size;
+      offends = λ i. cond (ltb i (a .size)) (a .offends i) (b .offends (i - a .size));
+      place = λ i. cond (ltb i (a .size)) (a .place i) (b .place (i - a .size));
+    }
 
 -- What a search finds: a candidate, or nothing.
 pub data Found : Type 0 where

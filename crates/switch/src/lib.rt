@@ -1,8 +1,8 @@
 // What a switch is: its ports and cells, requests and plans, refusals and verdicts, and the check of a request's numbers.
 pub mod check;
 mod entry;
-mod offenders;
 pub mod plan;
 pub mod port;
 pub mod request;
+mod tables;
 pub mod verdict;

@@ -1,10 +1,11 @@
 // A request: a switch's port capacities and the demand of each flow, with the limits of its numbers.
 ghost use mathlib.Core.Path.{_≡_};
-ghost use Rattle.switch.specs.Cells.{inputUsed, outputUsed, used, usedCell, inputCapacity, outputCapacity, demandOf};
+ghost use Rattle.switch.specs.Cells.{cellOf, inputCapacity, outputCapacity, demandOf};
 ghost use Rattle.switch.specs.Values.{zeroRequest};
 use crate::entry::entry;
 use crate::port::Input;
 use crate::port::Output;
+use crate::port::cell;
 
 pub struct Request {
     pub m: u32,
@@ -34,33 +35,6 @@ impl Request {
         }
     }
 
-    pub fn input_used(self, u: Input) -> bool
-        ensures { λ r. ⌜ r ≡ inputUsed self u ⌝ }
-    {
-        u.0 < self.m
-    }
-
-    pub fn output_used(self, v: Output) -> bool
-        ensures { λ r. ⌜ r ≡ outputUsed self v ⌝ }
-    {
-        v.0 < self.n
-    }
-
-    // Whether the flow from `u` to `v` is one of the switch's.
-    pub fn used(self, u: Input, v: Output) -> bool
-        ensures { λ r. ⌜ r ≡ used self u v ⌝ }
-    {
-        (u.0 < self.m) & (v.0 < self.n)
-    }
-
-    // A number above 63 is an unused cell.
-    pub fn used_cell(self, cell: u64) -> bool
-        ensures { λ r. ⌜ r ≡ usedCell self cell ⌝ }
-    {
-        (cell < 64) & self.used(Input::of(cell), Output::of(cell))
-    }
-
-    // A port past the table has capacity 0, and a cell past it demand 0.
     pub fn input_capacity(self, u: Input) -> u32
         ensures { λ r. ⌜ r ≡ inputCapacity self u ⌝ }
     {
@@ -73,9 +47,10 @@ impl Request {
         entry(&self.outputs, v.0 as u64)
     }
 
-    pub fn demand(self, cell: u64) -> u32
-        ensures { λ r. ⌜ r ≡ demandOf self cell ⌝ }
+    // What the flow from `u` to `v` asks for.
+    pub fn demand(self, u: Input, v: Output) -> u32
+        ensures { λ r. ⌜ r ≡ demandOf self (cellOf u v) ⌝ }
     {
-        entry(&self.demands, cell)
+        entry(&self.demands, cell(u, v))
     }
 }

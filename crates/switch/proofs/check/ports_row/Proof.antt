@@ -2,36 +2,32 @@
 use mathlib.Core.Path.{sym, _∙_}
 use native.Mathlib.Omega.{arith}
 use borrow.Author.Needs.{needs}
-use Rattle.switch.specs.RequestRows.{portsOffend, portsRow}
+use Rattle.switch.specs.RequestRows.{portsRow}
 use Rattle.switch.proofs.Search.{Passed, passed-none, passed-more, row-refuses, row-accepts}
-use Rattle.switch.proofs.offenders.ports_row.Statement.{statement}
-use Rattle.switch.proofs.offenders.ports_row.Tie as tie
+use Rattle.switch.proofs.check.ports_row.Statement.{statement}
+use Rattle.switch.proofs.check.ports_row.Tie as tie
 
 -- After the first test failed, m has been passed.
 m-passed : (c : tie.Else1) → Passed (portsRow (c .before .before .args .request)) 1
-unfolding portsOffend
 m-passed c =
     passed-more (passed-none (portsRow (c .before .before .args .request))) (omega arith) (sym (c .before .outside .ensures) ∙ c .if1 .left)
 
 returns : tie.Need-returns
-unfolding portsOffend
 returns c =
     c .refused .ensures
     ∙ sym (row-refuses (passed-none (portsRow (c .before .before .before .args .request))) (omega arith)
-        (sym (c .before .before .outside .ensures) ∙ c .before .if1 .taken))
+    (sym (c .before .before .outside .ensures) ∙ c .before .if1 .taken))
 
 returns-2 : tie.Need-returns-2
-unfolding portsOffend
 returns-2 c =
     c .refused2 .ensures
     ∙ sym (row-refuses (m-passed (c .before .before .before)) (omega arith)
-        (sym (c .before .before .outside2 .ensures) ∙ c .before .if2 .taken))
+    (sym (c .before .before .outside2 .ensures) ∙ c .before .if2 .taken))
 
 returns-3 : tie.Need-returns-3
-unfolding portsOffend
 returns-3 c =
     sym (row-accepts (passed-more (m-passed (c .before .before)) (omega arith)
-        (sym (c .before .outside2 .ensures) ∙ c .if2 .left)) (omega arith))
+    (sym (c .before .outside2 .ensures) ∙ c .if2 .left)) (omega arith))
 
 pub ports-row-spec : {M : Type 1} → statement M
 ports-row-spec =

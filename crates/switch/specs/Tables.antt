@@ -1,0 +1,35 @@
+-- The parts of rows 5 to 7 as a program walks them: one side's ports, or the cells, with one limit for those that are
+-- used or for those that are not. The rows of a request are made of such parts.
+use Prim.Native.Nat.{ℕ, _+_}
+use mathlib.Core.Bool.{Bool, true, false, not, _&&_}
+use mathlib.Core.List.{List}
+use lib.Dec.{ltb}
+use lib.ListN.{getD}
+use Rattle.switch.specs.Cells.{inputOf, outputOf}
+use Rattle.switch.specs.Rows.{Row}
+use Rattle.switch.specs.RequestRows.{above}
+use Rattle.switch.specs.declared.verdict.Cause.{Cause}
+
+-- The test itself, or its opposite.
+abbrev pub sided : Bool → Bool → Bool
+sided true b = b
+sided false b = not b
+
+-- Eight ports in words from `from` on, of which the first `count` are used.
+abbrev pub portsOver : Cause → ℕ → Bool → ℕ → ℕ → List ℕ → Row
+portsOver cause from used count most xs =
+    record { cause = cause; size = 8; offends = λ i. above (sided used (ltb i count)) most (getD xs i 0); place = λ i. from + i }
+
+-- The cell is used in a switch of m inputs and n outputs.
+abbrev pub usedAt : ℕ → ℕ → ℕ → Bool
+usedAt m n c = ltb c 64 && (ltb (inputOf c .0) m && ltb (outputOf c .0) n)
+
+-- The 64 cells in words from `from` on.
+abbrev pub cellsOver : Cause → ℕ → Bool → ℕ → ℕ → ℕ → List ℕ → Row
+cellsOver cause from used m n most xs =
+    record {
+      cause = cause;
+      size = 64;
+      offends = λ c. above (sided used (usedAt m n c)) most (getD xs c 0);
+      place = λ c. from + c;
+    }
