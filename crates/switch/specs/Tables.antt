@@ -9,6 +9,7 @@ use Rattle.switch.specs.Cells.{inputOf, outputOf}
 use Rattle.switch.specs.Rows.{Row}
 use Rattle.switch.specs.RequestRows.{above}
 use Rattle.switch.specs.declared.verdict.Cause.{Cause}
+use Rattle.switch.specs.declared.request.Request.{Request}
 
 -- The test itself, or its opposite.
 abbrev pub sided : Bool → Bool → Bool
@@ -33,3 +34,7 @@ cellsOver cause from used m n most xs =
       offends = λ c. above (sided used (usedAt m n c)) most (getD xs c 0);
       place = λ c. from + c;
     }
+
+-- The request of these numbers: what a walk that is lent only some of the tables says, it says of such a request.
+abbrev pub requestOf : ℕ → ℕ → List ℕ → List ℕ → List ℕ → Request
+requestOf m n inputs outputs demands = record { m = m; n = n; inputs = inputs; outputs = outputs; demands = demands }

@@ -1,92 +1,56 @@
 // The check of a request's numbers: rows 4 to 7 of the refusal table.
 ghost use mathlib.Core.Path.{_≡_};
 ghost use Rattle.switch.specs.Rows.{rowVerdict};
-ghost use Rattle.switch.specs.RequestRows.{outside, portsRow, capacityRow, demandRow, notZeroRow, requestVerdict};
+ghost use mathlib.Core.List.{[]};
+ghost use Rattle.switch.specs.RequestRows.{portsRow, capacityRow, notZeroRow, requestVerdict};
+ghost use Rattle.switch.specs.Tables.{requestOf};
 use crate::request::Request;
 use crate::tables::cells_over;
+use crate::tables::outside;
 use crate::tables::ports_over;
 use crate::verdict::Cause;
 use crate::verdict::Verdict;
 use crate::verdict::refused;
 
-fn outside(count: u32) -> bool
-    ensures { λ r. ⌜ r ≡ outside count ⌝ }
+fn ports_row(m: u32, n: u32) -> Verdict
+    ensures { λ r. ⌜ r ≡ rowVerdict (portsRow (requestOf m n [] [] [])) ⌝ }
 {
-    !((1 <= count) & (count <= Request::PORTS))
-}
-
-fn ports_row(request: Request) -> Verdict
-    ensures { λ r. ⌜ r ≡ rowVerdict (portsRow request) ⌝ }
-{
-    if outside(request.m) {
+    if outside(m) {
         return refused(Cause::Ports, 1);
     }
-    if outside(request.n) {
+    if outside(n) {
         return refused(Cause::Ports, 2);
     }
     Verdict::Accepted
 }
 
-fn capacity_row(request: Request) -> Verdict
-    ensures { λ r. ⌜ r ≡ rowVerdict (capacityRow request) ⌝ }
+fn capacity_row(m: u32, n: u32, inputs: &[u32], outputs: &[u32]) -> Verdict
+    ensures { λ r. ⌜ r ≡ rowVerdict (capacityRow (requestOf m n (now (inputs .entry)) (now (outputs .entry)) [])) ⌝ }
 {
-    let inputs = ports_over(
-        Cause::Capacity,
-        3,
-        true,
-        request.m,
-        Request::CAPACITY,
-        &request.inputs,
-    );
-    let outputs = ports_over(
-        Cause::Capacity,
-        11,
-        true,
-        request.n,
-        Request::CAPACITY,
-        &request.outputs,
-    );
-    inputs.or_else(outputs)
+    let first = ports_over(Cause::Capacity, 3, true, m, Request::CAPACITY, inputs);
+    first.or_else(ports_over(Cause::Capacity, 11, true, n, Request::CAPACITY, outputs))
 }
 
-fn demand_row(request: Request) -> Verdict
-    ensures { λ r. ⌜ r ≡ rowVerdict (demandRow request) ⌝ }
+fn not_zero_row(m: u32, n: u32, inputs: &[u32], outputs: &[u32], demands: &[u32]) -> Verdict
+    ensures { λ r. ⌜ r ≡ rowVerdict (notZeroRow (requestOf m n (now (inputs .entry)) (now (outputs .entry)) (now (demands .entry)))) ⌝ }
 {
-    cells_over(
-        Cause::Demand,
-        19,
-        true,
-        request.m,
-        request.n,
-        Request::DEMAND,
-        &request.demands,
-    )
-}
-
-fn not_zero_row(request: Request) -> Verdict
-    ensures { λ r. ⌜ r ≡ rowVerdict (notZeroRow request) ⌝ }
-{
-    let inputs = ports_over(Cause::NotZero, 3, false, request.m, 0, &request.inputs);
-    let outputs = ports_over(Cause::NotZero, 11, false, request.n, 0, &request.outputs);
-    let cells = cells_over(
-        Cause::NotZero,
-        19,
-        false,
-        request.m,
-        request.n,
-        0,
-        &request.demands,
-    );
-    inputs.or_else(outputs.or_else(cells))
+    let first = ports_over(Cause::NotZero, 3, false, m, 0, inputs);
+    let second = ports_over(Cause::NotZero, 11, false, n, 0, outputs);
+    first.or_else(second.or_else(cells_over(Cause::NotZero, 19, false, m, n, 0, demands)))
 }
 
 // Every row is asked, since an accepted request needs them all; the first that refuses counts.
 pub fn check(request: Request) -> Verdict
     ensures { λ r. ⌜ r ≡ requestVerdict request ⌝ }
 {
-    let ports = ports_row(request);
-    let capacities = capacity_row(request);
-    let demands = demand_row(request);
-    let zeros = not_zero_row(request);
-    ports.or_else(capacities.or_else(demands.or_else(zeros)))
+    let m = request.m;
+    let n = request.n;
+    let inputs = request.inputs;
+    let outputs = request.outputs;
+    let demands = request.demands;
+    let ports = ports_row(m, n);
+    let capacities = capacity_row(m, n, &inputs, &outputs);
+    let asked = cells_over(Cause::Demand, 19, true, m, n, Request::DEMAND, &demands);
+    let zeros = not_zero_row(m, n, &inputs, &outputs, &demands);
+    ports.or_else(capacities.or_else(asked.or_else(zeros)))
 }

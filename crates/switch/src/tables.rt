@@ -2,11 +2,12 @@
 // cells have. They serve rows 5 to 7 of the refusal table.
 ghost use mathlib.Core.Path.{_≡_};
 ghost use Rattle.switch.specs.Rows.{rowVerdict};
-ghost use Rattle.switch.specs.RequestRows.{above};
+ghost use Rattle.switch.specs.RequestRows.{outside, above};
 ghost use Rattle.switch.specs.Tables.{sided, usedAt, portsOver, cellsOver};
 use crate::entry::entry;
 use crate::port::Input;
 use crate::port::Output;
+use crate::request::Request;
 use crate::verdict::Cause;
 use crate::verdict::Verdict;
 use crate::verdict::refused;
@@ -16,6 +17,13 @@ fn sided(side: bool, test: bool) -> bool
     ensures { λ r. ⌜ r ≡ sided side test ⌝ }
 {
     if side { test } else { !test }
+}
+
+// A number of ports outside the limits.
+pub fn outside(count: u32) -> bool
+    ensures { λ r. ⌜ r ≡ outside count ⌝ }
+{
+    !((1 <= count) & (count <= Request::PORTS))
 }
 
 fn above(limited: bool, most: u32, x: u32) -> bool

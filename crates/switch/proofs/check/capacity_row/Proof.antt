@@ -2,18 +2,15 @@
 use mathlib.Core.Path.{_∙_, ap₂, sym, refl}
 use borrow.Author.Needs.{needs}
 use Rattle.switch.specs.Rows.{orElse}
-use Rattle.switch.specs.RequestRows.{inputsAbove, outputsAbove}
 use Rattle.switch.proofs.Rows.{joined-verdict}
 use Rattle.switch.proofs.check.capacity_row.Statement.{statement}
 use Rattle.switch.proofs.check.capacity_row.Tie as tie
 
 returns : tie.Need-returns
 returns c =
-    let first = c .before .before .before .before .before in
-    let request = first .before .before .before .before .args .t1 in
     c .or-else .ensures
-    ∙ ap₂ orElse (first .ports-over .ensures) (c .before .ports-over2 .ensures)
-    ∙ sym (joined-verdict (inputsAbove request) (outputsAbove request) refl)
+    ∙ ap₂ orElse (c .before .before .ports-over .ensures) (c .before .ports-over2 .ensures)
+    ∙ sym (joined-verdict _ _ refl)
 
 pub capacity-row-spec : {M : Type 1} → statement M
 capacity-row-spec =

@@ -1,8 +1,7 @@
 -- `not_zero_row` meets its contract: the row's three parts are the three tables.
-use mathlib.Core.Path.{_∙_, ap, ap₂, sym, refl}
+use mathlib.Core.Path.{_∙_, ap₂, sym, refl}
 use borrow.Author.Needs.{needs}
-use Rattle.switch.specs.Rows.{joined, rowVerdict, orElse}
-use Rattle.switch.specs.RequestRows.{inputsNotZero, outputsNotZero, cellsNotZero}
+use Rattle.switch.specs.Rows.{orElse}
 use Rattle.switch.proofs.Rows.{joined-verdict}
 use Rattle.switch.proofs.check.not_zero_row.Statement.{statement}
 use Rattle.switch.proofs.check.not_zero_row.Tie as tie
@@ -10,15 +9,12 @@ use Rattle.switch.proofs.check.not_zero_row.Tie as tie
 returns : tie.Need-returns
 returns c =
     let cells = c .before .before in
-    let outputs = cells .before .before .before .before in
-    let inputs = outputs .before .before .before .before in
-    let request = inputs .before .before .before .before .args .t1 in
     c .or-else2 .ensures
-    ∙ ap₂ orElse (inputs .ports-over .ensures)
+    ∙ ap₂ orElse (cells .before .before .ports-over .ensures)
     (c .before .or-else .ensures
-    ∙ ap₂ orElse (outputs .ports-over2 .ensures) (cells .cells-over .ensures)
-    ∙ sym (joined-verdict (outputsNotZero request) (cellsNotZero request) refl))
-    ∙ sym (joined-verdict (inputsNotZero request) (joined (outputsNotZero request) (cellsNotZero request)) refl)
+    ∙ ap₂ orElse (cells .before .ports-over2 .ensures) (cells .cells-over .ensures)
+    ∙ sym (joined-verdict _ _ refl))
+    ∙ sym (joined-verdict _ _ refl)
 
 pub not-zero-row-spec : {M : Type 1} → statement M
 not-zero-row-spec =
