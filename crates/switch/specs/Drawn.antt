@@ -1,8 +1,7 @@
--- The requests of the section 'Drawn examples', and a short way to write tables.
+-- Document 01's drawn examples of plans, P1 to P6 and P8, with a short way to write tables.
 use Prim.Native.Nat.{ℕ, zero, suc, _-_}
 use mathlib.Core.List.{List, [], _∷_, _++_}
 use lib.ListN.{replicate, length, set}
-use Rattle.switch.specs.Cells.{cellOf}
 use Rattle.switch.specs.declared.plan.Plan.{Plan}
 use Rattle.switch.specs.declared.request.Request.{Request}
 
@@ -41,3 +40,43 @@ single from to demand = asked 1 1 (from ∷ []) (to ∷ []) ((demand ∷ []) ∷
 abbrev pub withDemand : Request → ℕ → ℕ → Request
 withDemand r c d =
     record { m = r .m; n = r .n; inputs = r .inputs; outputs = r .outputs; demands = set (r .demands) c d }
+
+-- A request and the plan that it has to have.
+pub record Example : Type 0 where
+  pub request : Request
+  pub plan : Plan
+
+-- P1 is the triangle; P2 to P5 have one port on a side; P6 shares one input's largest capacity among three outputs; P8 is
+-- the triangle with every 1 an 8, first as it is, when cell 9 gets 3, and then with the demand of cell 9 lowered to 2.
+unfoldable pub drawnPlans : List Example
+drawnPlans =
+    record {
+      request = triangle 1;
+      plan =
+        drawn 8 ((2 ∷ []) ∷ (2 ∷ 3 ∷ []) ∷ (2 ∷ 3 ∷ 3 ∷ []) ∷ (2 ∷ 2 ∷ 2 ∷ 2 ∷ []) ∷ [])
+        ((2 ∷ []) ∷ (2 ∷ 2 ∷ []) ∷ (2 ∷ 1 ∷ 1 ∷ []) ∷ (1 ∷ 1 ∷ 1 ∷ 1 ∷ []) ∷ [])
+    }
+    ∷ record { request = single 2 1 2; plan = drawn 1 ((1 ∷ []) ∷ []) ((2 ∷ []) ∷ []) }
+    ∷ record { request = single 5 5 0; plan = drawn 1 ((0 ∷ []) ∷ []) ((0 ∷ []) ∷ []) }
+    ∷ record { request = single 0 5 3; plan = drawn 1 ((0 ∷ []) ∷ []) ((1 ∷ []) ∷ []) }
+    ∷ record { request = single 5 5 5; plan = drawn 1 ((5 ∷ []) ∷ []) ((0 ∷ []) ∷ []) }
+    ∷ record { request = single 5 5 6; plan = drawn 1 ((5 ∷ []) ∷ []) ((1 ∷ []) ∷ []) }
+    ∷ record {
+      request =
+        asked 1 3 (16_777_216 ∷ []) (16_777_216 ∷ 16_777_216 ∷ 16_777_216 ∷ [])
+        ((16_777_216 ∷ 16_777_216 ∷ 16_777_216 ∷ []) ∷ []);
+      plan = drawn 3 ((16_777_216 ∷ 16_777_216 ∷ 16_777_216 ∷ []) ∷ []) ((1 ∷ 1 ∷ 1 ∷ []) ∷ [])
+    }
+    ∷ record {
+      request = triangle 8;
+      plan =
+        drawn 1 ((2 ∷ []) ∷ (2 ∷ 3 ∷ []) ∷ (2 ∷ 3 ∷ 3 ∷ []) ∷ (2 ∷ 2 ∷ 2 ∷ 2 ∷ []) ∷ [])
+        ((2 ∷ []) ∷ (2 ∷ 2 ∷ []) ∷ (2 ∷ 1 ∷ 1 ∷ []) ∷ (1 ∷ 1 ∷ 1 ∷ 1 ∷ []) ∷ [])
+    }
+    ∷ record {
+      request = withDemand (triangle 8) 9 2;
+      plan =
+        drawn 1 ((2 ∷ []) ∷ (2 ∷ 2 ∷ []) ∷ (2 ∷ 3 ∷ 3 ∷ []) ∷ (2 ∷ 2 ∷ 2 ∷ 2 ∷ []) ∷ [])
+        ((2 ∷ []) ∷ (2 ∷ 0 ∷ []) ∷ (2 ∷ 1 ∷ 1 ∷ []) ∷ (1 ∷ 1 ∷ 1 ∷ 1 ∷ []) ∷ [])
+    }
+    ∷ []

@@ -29,7 +29,8 @@ impl Input {
     pub fn limit(self) -> u64
         ensures { λ r. ⌜ r ≡ inputLimit self ⌝ }
     {
-        self.0 as u64
+        let u = self.0;
+        u as u64
     }
 }
 
@@ -45,6 +46,7 @@ impl Output {
     pub fn limit(self) -> u64
         ensures { λ r. ⌜ r ≡ outputLimit self ⌝ }
     {
-        8 + (self.0 as u64)
+        let v = self.0;
+        8 + (v as u64)
     }
 }

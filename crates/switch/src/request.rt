@@ -1,6 +1,6 @@
 // A request: a switch's port capacities and the demand of each flow, with the limits of its numbers.
 ghost use mathlib.Core.Path.{_≡_};
-ghost use Rattle.switch.specs.Cells.{cellOf, inputCapacity, outputCapacity, demandOf};
+ghost use Rattle.switch.specs.Cells.{cellOf, demandOf};
 ghost use Rattle.switch.specs.Values.{zeroRequest};
 use crate::entry::entry;
 use crate::port::Input;
@@ -33,18 +33,6 @@ impl Request {
             outputs: [0u32; 8],
             demands: [0u32; 64],
         }
-    }
-
-    pub fn input_capacity(self, u: Input) -> u32
-        ensures { λ r. ⌜ r ≡ inputCapacity self u ⌝ }
-    {
-        entry(&self.inputs, u.0 as u64)
-    }
-
-    pub fn output_capacity(self, v: Output) -> u32
-        ensures { λ r. ⌜ r ≡ outputCapacity self v ⌝ }
-    {
-        entry(&self.outputs, v.0 as u64)
     }
 
     // What the flow from `u` to `v` asks for.
