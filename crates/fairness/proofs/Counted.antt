@@ -1,22 +1,20 @@
 -- The base of a filling is the product of its divisors: every divisor closes a limit and stops that many weights, so
 -- there are few of them and their sum is small.
-use Prim.Native.Nat.{ℕ, suc, _+_, _*_, _≤_, _<_}
-use mathlib.Core.Path.{_≡_, refl, ap, sym, _∙_}
-use mathlib.Core.Bool.{Bool, true, false, true≢false}
+use Prim.Native.Nat.{ℕ, _+_, _*_, _≤_, _<_}
+use mathlib.Core.Path.{_≡_, refl, ap, _∙_}
+use mathlib.Core.Bool.{Bool, true, false}
 use mathlib.Core.List.{_∷_}
 use mathlib.Core.Logic.{_⊎_, inl, inr}
 use native.Mathlib.Nat.{mul-comm}
 use native.Mathlib.Omega.{arith}
-use lib.Dec.{ltb}
 use borrow.Author.Tests.{ltb-true, lt-ltb, le-ltb}
-use Rattle.fairness.specs.Total.{on, total}
+use Rattle.fairness.specs.Total.{on}
 use Rattle.fairness.specs.Product.{sum, product}
 use Rattle.fairness.specs.Problem.{Problem, across}
 use Rattle.fairness.specs.Filling.{State, cells}
-use Rattle.fairness.specs.Round
-use Rattle.fairness.specs.Round.{Shutting, Moved, kept, met, shutOff, freed, Step, afoot, isOpen, opens, Counted}
+use Rattle.fairness.specs.Round.{Shutting, Moved, kept, met, shutOff, freed, Step, isOpen, Counted}
 use Rattle.fairness.proofs.Search.{eq-or-not, true-or-false}
-use Rattle.fairness.proofs.Sums.{total-linear, total-le, total-equal, total-on, total-one, one, one-self, one-other}
+use Rattle.fairness.proofs.Sums.{total-linear, total-le, total-on, total-one, one, one-self, one-other}
 
 on-one : (s t : Bool) → (s ≡ true → t ≡ true) → on s 1 ≤ on t 1
 on-one true t h = rw (h refl) (omega arith)

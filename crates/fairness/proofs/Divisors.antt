@@ -2,22 +2,8 @@
 use Prim.Native.Nat.{ℕ, zero, suc, _+_, _*_, _/_, _%_, _<_, _∣_}
 use mathlib.Core.Path.{_≡_, ap}
 use mathlib.Core.List.{List, [], _∷_}
-use native.Mathlib.Nat.{
-  dvd-refl,
-  dvd-zero,
-  dvd-trans,
-  dvd-mul-right-of-dvd,
-  dvd-mod-iff,
-  dvd-add-iff-right,
-  dvd-antisymm,
-  mul-dvd-mul-left,
-  div-add-mod,
-  mul-assoc,
-  one-mul,
-  mod-lt,
-  not-suc-le-zero,
-  pos-of-dvd-of-pos,
-}
+use native.Mathlib.Nat.{dvd-refl, dvd-zero, dvd-trans, dvd-mul-right-of-dvd, dvd-mod-iff, dvd-add-iff-right, dvd-antisymm}
+use native.Mathlib.Nat.{mul-dvd-mul-left, div-add-mod, mul-assoc, one-mul, mod-lt, not-suc-le-zero, pos-of-dvd-of-pos}
 use native.Mathlib.Omega.{arith}
 use Rattle.fairness.specs.Divisor.{euclid, gcd, gcdOf, Gcd, GcdOf}
 

@@ -1,6 +1,6 @@
 -- A flow's entitlement: its rate at the largest demand. At each demand it gets the smaller of the two, and the
 -- entitlement is at least its weighted share of one of its limits.
-use Prim.Native.Nat.{ℕ, _+_, _*_, _≤_, _<_, min}
+use Prim.Native.Nat.{ℕ, _*_, _≤_, _<_, min}
 use mathlib.Core.Path.{_≡_, refl, ap, sym, _∙_}
 use mathlib.Core.Bool.{Bool, true, false, cond}
 use mathlib.Core.Logic.{_⊎_, inl, inr}
@@ -10,9 +10,8 @@ use native.Mathlib.Omega.{arith}
 use lib.Dec.{eqb}
 use borrow.Author.Tests.{eq-eqb, ne-eqb}
 use Rattle.fairness.specs.Total.{on}
-use Rattle.fairness.specs.Problem.{Problem, across}
-use Rattle.fairness.specs.Fairness
-use Rattle.fairness.specs.Fairness.{Allocation, Allowed, AtMost, Fair, Bottleneck, SettledAt, Settled}
+use Rattle.fairness.specs.Problem.{Problem}
+use Rattle.fairness.specs.Fairness.{Allocation, Allowed, AtMost, Fair, Bottleneck, SettledAt}
 use Rattle.fairness.specs.Entitlement.{asking, sharing}
 use Rattle.fairness.proofs.Search.{le-or-lt, eq-or-not, true-or-false}
 use Rattle.fairness.proofs.Sums.{total-le, member-le-total}

@@ -1,5 +1,5 @@
 -- A fair allocation exists for every sound problem, and how large its base can be.
-use Prim.Native.Nat.{ℕ, zero, suc, _+_, _*_, _≤_, _<_}
+use Prim.Native.Nat.{ℕ, zero, suc, _+_, _≤_}
 use mathlib.Core.Path.{_≡_, refl, ap, _∙_}
 use mathlib.Core.Bool.{Bool, true, false}
 use mathlib.Core.List.{List}
@@ -11,10 +11,10 @@ use Rattle.fairness.specs.Product.{sum, product}
 use Rattle.fairness.specs.Problem.{Problem, Sound}
 use Rattle.fairness.specs.Fairness.{Allocation, Fair}
 use Rattle.fairness.specs.Filling.{State, start, filled, ratesOf}
-use Rattle.fairness.specs.Round.{opens, isOpen, Counted}
+use Rattle.fairness.specs.Round.{opens, isOpen}
 use Rattle.fairness.proofs.Sums.{total-le}
 use Rattle.fairness.proofs.Start.{afoot-at-start}
-use Rattle.fairness.proofs.Filling.{Ended, filled-ends}
+use Rattle.fairness.proofs.Filling.{filled-ends}
 
 pub fair-filled : (P : Problem) → Sound P → Fair P (ratesOf (filled P))
 fair-filled P sound = filled-ends P sound .fair

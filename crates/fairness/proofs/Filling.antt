@@ -1,22 +1,19 @@
 -- The executable filling ends with a fair allocation, for every sound problem, and its base is a product of few divisors.
 use Prim.Native.Nat.{ℕ, zero, suc, _+_, _*_, _≤_, _<_}
-use mathlib.Core.Path.{_≡_, refl, ap, sym, _∙_, subst}
+use mathlib.Core.Path.{_≡_, refl, ap, _∙_}
 use mathlib.Core.Bool.{Bool, true, false}
 use mathlib.Core.Logic.{_⊎_, inl, inr}
-use native.Mathlib.Nat.{le-of-mul-le-mul-right, mul-le-mul-right, pos-of-ne-zero, add-sub-of-le, le-refl}
+use native.Mathlib.Nat.{le-of-mul-le-mul-right, pos-of-ne-zero, add-sub-of-le, le-refl}
 use native.Mathlib.Omega.{arith}
 use lib.Dec.{eqb}
-use lib.ListN.{length}
 use borrow.Author.Tests.{eqb-true, eqb-false}
-use Rattle.fairness.specs.Total.{on, total}
-use Rattle.fairness.specs.Product.{sum, product}
+use Rattle.fairness.specs.Total.{on}
 use Rattle.fairness.specs.Problem.{Problem, Sound, across}
 use Rattle.fairness.specs.Fairness.{Fair}
-use Rattle.fairness.specs.Filling
-use Rattle.fairness.specs.Filling.{State, Next, cells, start, never, left, limitNext, flowNext, lowest, next, meets, some}
+use Rattle.fairness.specs.Filling.{State, cells, start, never, left, limitNext, flowNext, lowest, next, meets, some}
 use Rattle.fairness.specs.Filling.{stopMet, shut, free, happen, round, fill, work, filled, ratesOf}
-use Rattle.fairness.specs.Round.{Stage, rises, waits, stopped, Underway, Reached, Shutting, Step, Counted, opens, isOpen}
-use Rattle.fairness.proofs.Sums.{total-le, member-le-total}
+use Rattle.fairness.specs.Round.{Stage, rises, waits, stopped, Underway, Reached, Shutting, Step, Counted}
+use Rattle.fairness.proofs.Sums.{member-le-total}
 use Rattle.fairness.proofs.Lists.{none-of-some, one-of-some}
 use Rattle.fairness.proofs.Lowest.{Below, Lowest, lowest-is, below-trans}
 use Rattle.fairness.proofs.Round.{underway-after, fair-at-end}

@@ -2,22 +2,8 @@
 use Prim.Native.Nat.{ℕ, _*_, _/_, _≤_, _<_, _∣_}
 use mathlib.Core.Path.{_≡_, ap, _∙_}
 use mathlib.Core.List.{List}
-use native.Mathlib.Nat.{
-  div-mul-cancel,
-  dvd-mul-left,
-  dvd-mul-right,
-  dvd-of-mul-dvd-mul-right,
-  eq-of-mul-eq-mul-right,
-  le-antisymm,
-  le-of-dvd,
-  mul-assoc,
-  mul-comm,
-  mul-dvd-mul-right,
-  mul-one,
-  one-dvd,
-  pos-of-dvd-of-pos,
-  zero-div,
-}
+use native.Mathlib.Nat.{div-mul-cancel, dvd-mul-left, dvd-mul-right, dvd-of-mul-dvd-mul-right, eq-of-mul-eq-mul-right, le-antisymm, le-of-dvd}
+use native.Mathlib.Nat.{mul-assoc, mul-comm, mul-dvd-mul-right, mul-one, one-dvd, pos-of-dvd-of-pos, zero-div}
 use native.Mathlib.Omega.{arith}
 use lib.ListN.{length, getD, length-map, List·getD-map}
 use Rattle.fairness.specs.Divisor.{gcdOf, divided, GcdOf}

@@ -1,13 +1,12 @@
 -- The lowest of several levels is at most each of them, and is one of them.
-use Prim.Native.Nat.{ℕ, zero, suc, _+_, _*_, _≤_, _<_}
-use mathlib.Core.Path.{_≡_, refl, ap, _∙_}
+use Prim.Native.Nat.{ℕ, zero, suc, _*_, _≤_, _<_}
+use mathlib.Core.Path.{_≡_, refl, ap}
 use mathlib.Core.Bool.{Bool, true, false, cond}
 use mathlib.Core.Logic.{_⊎_, inl, inr, ⊎-map}
 use native.Mathlib.Nat.{not-suc-le-zero, le-refl, le-of-lt, mul-le-mul-right, le-of-mul-le-mul-right, eq-zero-or-pos, mul-zero, mul-pos}
 use native.Mathlib.Omega.{arith}
 use lib.Dec.{ltb}
 use borrow.Author.Tests.{ltb-true, ltb-false}
-use Rattle.fairness.specs.Filling
 use Rattle.fairness.specs.Filling.{Next, lower, lowest}
 use Rattle.fairness.proofs.Search.{below-suc}
 

@@ -2,21 +2,8 @@
 use Prim.Native.Nat.{ℕ, zero, suc, _+_, _*_, _^_, _≤_, _<_}
 use mathlib.Core.Path.{_≡_}
 use mathlib.Core.List.{List, [], _∷_}
-use native.Mathlib.Nat.{
-  add-suc,
-  add-zero,
-  le-dest,
-  le-of-lt,
-  le-of-mul-le-mul-right,
-  le-refl,
-  lt-of-not-le,
-  mul-le-mul,
-  mul-le-mul-right,
-  mul-pos,
-  one-le-pow,
-  pow-le-pow-left,
-  pow-suc,
-}
+use native.Mathlib.Nat.{add-suc, add-zero, le-dest, le-of-lt, le-of-mul-le-mul-right, le-refl}
+use native.Mathlib.Nat.{lt-of-not-le, mul-le-mul, mul-le-mul-right, mul-pos, one-le-pow, pow-le-pow-left, pow-suc}
 use native.Mathlib.Decide.{decLe}
 use native.Mathlib.Omega.{arith}
 use lib.ListN.{length}

@@ -1,14 +1,13 @@
 -- A round keeps what holds of a filling, and when nothing rises or waits any more the rates are fair.
 use Prim.Native.Nat.{ℕ, _+_, _*_, _≤_, _<_}
-use mathlib.Core.Path.{_≡_, refl, ap, sym, _∙_}
+use mathlib.Core.Path.{_≡_, ap, _∙_}
 use mathlib.Core.Bool.{true}
 use mathlib.Core.Logic.{_⊎_, inl, inr}
 use native.Mathlib.Nat.{mul-le-mul-right, le-of-mul-le-mul-right, eq-of-mul-eq-mul-right, mul-pos, le-antisymm}
 use native.Mathlib.Omega.{arith}
 use Rattle.fairness.specs.Problem.{Problem, Sound, across}
-use Rattle.fairness.specs.Fairness.{Allocation, Fair, Allowed, Settled, SettledAt, Bottleneck}
+use Rattle.fairness.specs.Fairness.{Fair, SettledAt}
 use Rattle.fairness.specs.Filling.{State, cells, ratesOf}
-use Rattle.fairness.specs.Round
 use Rattle.fairness.specs.Round.{Closed, Rising, Waiting, Stopped, Stage, rises, waits, stopped, Underway, Reached, Shutting}
 use Rattle.fairness.specs.Round.{Moved, kept, met, shutOff, freed, Step}
 use Rattle.fairness.proofs.Search.{le-or-lt}

@@ -1,14 +1,13 @@
 -- A feasible and bounded allocation is fair exactly when every flow has its demand or a bottleneck.
-use Prim.Native.Nat.{ℕ, suc, _+_, _-_, _*_, _≤_, _<_}
-use mathlib.Core.Path.{_≡_, refl, ap, sym}
+use Prim.Native.Nat.{ℕ, _+_, _-_, _*_, _≤_, _<_}
+use mathlib.Core.Path.{_≡_, refl, ap}
 use mathlib.Core.Bool.{Bool, true, false, _&&_}
-use mathlib.Core.Logic.{_⊎_, inl, inr, _≢_}
+use mathlib.Core.Logic.{_⊎_, inl, inr}
 use native.Mathlib.Nat.{mul-le-mul-right, mul-lt-mul-of-pos-right, le-antisymm, le-refl}
 use native.Mathlib.Omega.{arith}
 use lib.Dec.{ltb}
-use borrow.Author.Tests.{ltb-true, ltb-false, lt-ltb, le-ltb}
+use borrow.Author.Tests.{ltb-true, lt-ltb, le-ltb}
 use Rattle.fairness.specs.Problem.{Problem, across}
-use Rattle.fairness.specs.Fairness
 use Rattle.fairness.specs.Fairness.{Allocation, Feasible, Bounded, Allowed, AtMost, Better, Fair, Bottleneck, SettledAt, Settled}
 use Rattle.fairness.proofs.Search.{le-or-lt, eq-or-not, true-or-false, true-not-false, both-true, true-of-both, all-or-some}
 use Rattle.fairness.proofs.Sums.{total-linear, total-le, total-one, one, one-self, one-other}

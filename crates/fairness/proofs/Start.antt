@@ -1,17 +1,17 @@
 -- A filling starts at level 0, with nothing counted yet.
-use Prim.Native.Nat.{ℕ, _+_, _*_, _≤_, _<_}
+use Prim.Native.Nat.{ℕ, _+_, _≤_, _<_}
 use mathlib.Core.Path.{_≡_, refl, _∙_}
-use mathlib.Core.Bool.{Bool, true, false, _&&_, and-false}
+use mathlib.Core.Bool.{true, _&&_, and-false}
 use mathlib.Core.List.{[]}
 use mathlib.Core.Logic.{_⊎_, inl, inr}
 use native.Mathlib.Nat.{eq-zero-or-pos, ne-of-gt}
 use native.Mathlib.Omega.{arith}
 use lib.Dec.{eqb, ltb}
-use borrow.Author.Tests.{lt-ltb, le-ltb, eq-eqb, ne-eqb}
+use borrow.Author.Tests.{lt-ltb, ne-eqb}
 use Rattle.fairness.specs.Total.{on, total}
 use Rattle.fairness.specs.Product.{sum, product}
-use Rattle.fairness.specs.Problem.{Problem, Sound, across}
-use Rattle.fairness.specs.Filling.{State, cells, start}
+use Rattle.fairness.specs.Problem.{Problem, Sound}
+use Rattle.fairness.specs.Filling.{cells, start}
 use Rattle.fairness.specs.Round.{Stage, rises, waits, stopped, Underway, Counted, afoot}
 use Rattle.fairness.proofs.Sums.{total-le}
 use Rattle.fairness.proofs.Lists.{cells-list}

@@ -1,17 +1,15 @@
 -- What each kind of round of the executable filling does is a step, and leaves less to be done.
-use Prim.Native.Nat.{ℕ, _+_, _-_, _*_, _≤_, _<_}
-use mathlib.Core.Path.{_≡_, refl, ap, sym, _∙_}
-use mathlib.Core.Bool.{Bool, true, false, not, cond, _&&_}
+use Prim.Native.Nat.{ℕ, _+_, _*_, _≤_, _<_}
+use mathlib.Core.Path.{_≡_, refl, ap, _∙_}
+use mathlib.Core.Bool.{true, false, not, cond}
 use mathlib.Core.Logic.{_⊎_, inl, inr}
-use native.Mathlib.Nat.{eq-zero-or-pos, mul-zero, mul-one, mul-comm, le-of-lt, add-sub-of-le}
+use native.Mathlib.Nat.{eq-zero-or-pos, mul-zero, le-of-lt, add-sub-of-le}
 use native.Mathlib.Omega.{arith}
 use lib.Dec.{eqb, leb, ltb}
 use borrow.Author.Tests.{ltb-true, leb-true, leb-false, lt-ltb, eq-eqb, ne-eqb}
-use Rattle.fairness.specs.Total.{on, total}
-use Rattle.fairness.specs.Problem.{Problem, Sound, across}
-use Rattle.fairness.specs.Filling
-use Rattle.fairness.specs.Filling.{State, Next, cells, left, limitNext, flowNext, meets, stopMet, shut, free, work}
-use Rattle.fairness.specs.Round
+use Rattle.fairness.specs.Total.{on}
+use Rattle.fairness.specs.Problem.{Problem, across}
+use Rattle.fairness.specs.Filling.{State, Next, cells, left, limitNext, meets, stopMet, shut, free, work}
 use Rattle.fairness.specs.Round.{Stage, rises, waits, stopped, Underway, Shutting, Moved, kept, met, shutOff, freed, Step}
 use Rattle.fairness.proofs.Search.{eq-or-not, true-or-false, both-true}
 use Rattle.fairness.proofs.Sums.{total-linear, total-on, total-one, one, one-self, one-other}

@@ -3,15 +3,14 @@ use Prim.Native.Nat.{ℕ, _+_, _*_, _≤_, _<_, min}
 use mathlib.Core.Path.{_≡_, ap, sym}
 use mathlib.Core.Bool.{true, false}
 use mathlib.Core.Logic.{_⊎_, inl, inr}
-use native.Mathlib.Nat.{mul-le-mul-right, mul-lt-mul-of-pos-right, lt-of-mul-lt-mul-right, le-of-mul-le-mul-right, mul-pos}
-use native.Mathlib.Nat.{eq-of-mul-eq-mul-right, min-eq-left, min-eq-right, min-comm, le-of-lt, le-antisymm}
+use native.Mathlib.Nat.{mul-le-mul-right, mul-lt-mul-of-pos-right, lt-of-mul-lt-mul-right, le-of-mul-le-mul-right}
+use native.Mathlib.Nat.{min-eq-left, min-eq-right, min-comm, le-of-lt, le-antisymm}
 use native.Mathlib.Omega.{arith}
-use Rattle.fairness.specs.Problem.{Problem, Sound, across}
-use Rattle.fairness.specs.Fairness
-use Rattle.fairness.specs.Fairness.{Allocation, Allowed, AtMost, Better, Fair, Bottleneck, SettledAt, Settled, SameRates}
+use Rattle.fairness.specs.Problem.{Problem}
+use Rattle.fairness.specs.Fairness.{Allocation, Allowed, AtMost, Better, Fair, Bottleneck, SettledAt, SameRates}
 use Rattle.fairness.proofs.Search.{le-or-lt, eq-or-not, true-or-false, true-not-false, all-or-some, least-or-none}
 use Rattle.fairness.proofs.Sums.{total-linear, total-le, total-one, one, one-self, one-other}
-use Rattle.fairness.proofs.Settled.{settled-of-fair, fair-of-settled}
+use Rattle.fairness.proofs.Settled.{settled-of-fair}
 
 -- If a gives f less than z does, then at a's bottleneck of f some flow has less in z than in a; and that flow is
 -- lower in z than f is in a. So f is not the lowest flow at which the two differ.

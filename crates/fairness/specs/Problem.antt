@@ -1,5 +1,5 @@
 -- A problem of sharing: flows that ask for rates, and a list of limits, each a set of flows with a capacity.
-use Prim.Native.Nat.{ℕ, _*_, _≤_, _<_}
+use Prim.Native.Nat.{ℕ, _≤_, _<_}
 use mathlib.Core.Path.{_≡_}
 use mathlib.Core.Bool.{Bool, true}
 use Rattle.fairness.specs.Total.{total}

@@ -1,15 +1,14 @@
 -- Fairness looks at flows alone: rates that agree on every used cell are fair together, whatever unused cells hold.
-use Prim.Native.Nat.{ℕ, _*_, _≤_, _<_}
-use mathlib.Core.Path.{_≡_, refl, ap, ap₂, sym, _∙_}
-use mathlib.Core.Bool.{true, false}
+use Prim.Native.Nat.{_*_, _<_}
+use mathlib.Core.Path.{_≡_, refl, sym, _∙_}
+use mathlib.Core.Bool.{true}
 use mathlib.Core.Logic.{_⊎_, inl, inr}
 use native.Mathlib.Omega.{arith}
 use Rattle.fairness.specs.Total.{on}
-use Rattle.switch.specs.Cells.{input, output, cellOf, inputCapacity, outputCapacity, demandOf, usedCell}
+use Rattle.switch.specs.Cells.{input, output, cellOf, demandOf, usedCell}
 use Rattle.switch.specs.Within.{Within}
-use Rattle.switch.specs.Rates.{Rates, flow, sumTo, inputTotal, outputTotal}
-use Rattle.switch.specs.Fairness
-use Rattle.switch.specs.Fairness.{Used, Allocation, GivesMore, Fair, InputBottleneck, OutputBottleneck, Settled, SameRates, Blank}
+use Rattle.switch.specs.Rates.{Rates, flow, inputTotal, outputTotal}
+use Rattle.switch.specs.Fairness.{Used, Allocation, GivesMore, Fair, InputBottleneck, OutputBottleneck, Settled, Blank}
 use Rattle.switch.specs.declared.port.Input.{Input}
 use Rattle.switch.specs.declared.port.Output.{Output}
 use Rattle.switch.specs.declared.request.Request.{Request}

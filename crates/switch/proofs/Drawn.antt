@@ -55,6 +55,7 @@ right-of-all (x ∷ rest) t e m = go (List·Memᴰ·cases-cons m) (right-of-all 
   where
     both : (samePlan (planOf (x .request)) (x .plan) ≡ true) × (allRight rest ≡ true)
     both = both-true (samePlan (planOf (x .request)) (x .plan)) (allRight rest) t
+
     go : (e ≡ x) ⊎ List·Memᴰ e rest
         → (allRight rest ≡ true → (e : Example) → List·Memᴰ e rest → planOf (e .request) ≡ e .plan)
         → planOf (e .request) ≡ e .plan
@@ -64,7 +65,7 @@ right-of-all (x ∷ rest) t e m = go (List·Memᴰ·cases-cons m) (right-of-all 
 
 tested : allRight drawnPlans ≡ true
 unfolding total listFrom list start lowest next some stopMet shut free happen round fill work filled
-  euclid gcd gcdOf sumTo every planFrom planOfState planOf rows sameList samePlan allRight drawnPlans
+    euclid gcd gcdOf sumTo every planFrom planOfState planOf rows sameList samePlan allRight drawnPlans
 tested = refl
 
 pub drawn-plans-are-right : (e : Example) → List·Memᴰ e drawnPlans → planOf (e .request) ≡ e .plan

@@ -1,9 +1,8 @@
 -- Document 01's fairness, for every request within the limits: fair exactly when each flow has its demand or a
 -- bottleneck; one fair allocation exists; only one.
 use Prim.Native.Nat.{ℕ, _*_, _≤_, _<_}
-use mathlib.Core.Path.{_≡_, refl, ap, sym, _∙_}
-use mathlib.Core.Bool.{true}
-use mathlib.Core.Logic.{_⊎_, inl, inr, _≢_}
+use mathlib.Core.Path.{_≡_, refl, ap}
+use mathlib.Core.Logic.{inl, _≢_, _↔_}
 use native.Mathlib.Omega.{arith}
 use borrow.Author.Tests.{eq-eqb}
 use Rattle.fairness.specs.Problem.{Sound}
@@ -13,21 +12,17 @@ use Rattle.fairness.proofs.Sums.{total-le}
 use Rattle.fairness.proofs.Settled.{settled-of-fair, fair-of-settled}
 use Rattle.fairness.proofs.Unique.{same-of-fair}
 use Rattle.fairness.proofs.Existence.{fair-filled}
-use Rattle.switch.specs.Cells.{input, output, cellOf, inputOf, outputOf, inputLimit, demandOf}
+use Rattle.switch.specs.Cells.{cellOf, inputOf, inputLimit}
 use Rattle.switch.specs.Within.{Within}
-use Rattle.switch.specs.Rates.{Rates, flow}
-use Rattle.switch.specs.Fairness
+use Rattle.switch.specs.Rates.{Rates}
 use Rattle.switch.specs.Fairness.{Used, Allocation, GivesMore, Fair, Settled, SameRates, Blank}
 use Rattle.switch.specs.Planned.{passes, problemOf}
 use Rattle.switch.specs.declared.port.Input.{Input}
 use Rattle.switch.specs.declared.port.Output.{Output}
 use Rattle.switch.specs.declared.request.Request.{Request}
-use Rattle.switch.proofs.Cells.{cell-of-ports}
-use Rattle.switch.proofs.Grid.{passes-input}
-use Rattle.switch.proofs.Sharing
 use Rattle.switch.proofs.Sharing.{general, Past, by-cell, below-eight, blank-of-allowed, allocation-of-allowed, allowed-of-allocation}
 use Rattle.switch.proofs.Sharing.{settled-of-general, general-of-settled}
-use Rattle.switch.proofs.Agree.{Agree, agree-sym, agree-allocation, agree-fair, agree-settled, blanked, agree-blanked, blank-blanked}
+use Rattle.switch.proofs.Agree.{agree-sym, agree-allocation, agree-fair, agree-settled, blanked, agree-blanked, blank-blanked}
 
 module _ (r : Request) (w : Within r) where
   -- Every cell passes its input, and minima of 0 fit every port.
@@ -97,8 +92,7 @@ module _ (r : Request) (w : Within r) where
                 omega (arith, ap (λ k. k * z .base) (blank-of-allowed r w a (fair .allowed) .unused u' v' hu hv past)));
           }
 
-  -- 'a feasible and bounded allocation is fair exactly when each flow either has its demand or has a bottleneck'
-  pub fair-when-settled : (a : Rates) → Allocation r a → Settled r a → Fair r a
+  fair-when-settled : (a : Rates) → Allocation r a → Settled r a → Fair r a
   fair-when-settled a ok settled =
       let agree = agree-blanked r w a in
       let blank = blank-blanked r w a in
@@ -118,6 +112,7 @@ module _ (r : Request) (w : Within r) where
             ap (λ k. k * a .base) (w .unused-cell u v hu hv past),
           )))
 
+  -- The other half needs no more than that the rates are fair.
   pub settled-when-fair : (a : Rates) → Fair r a → Settled r a
   settled-when-fair a fair =
       let agree = agree-blanked r w a in
@@ -131,13 +126,17 @@ module _ (r : Request) (w : Within r) where
             settled-of-general r w (blanked r a) blank u v is (all .each (cellOf u v) (omega arith));
       })
 
-  -- 'one fair allocation exists for each request'
+  -- Fair exactly when settled: document 01's point 5, first half.
+  pub fair-exactly-when-settled : (a : Rates) → Allocation r a → (Fair r a ↔ Settled r a)
+  fair-exactly-when-settled a ok = (settled-when-fair a, fair-when-settled a ok)
+
+  -- Point 5, second half: one fair allocation exists,
   pub one-is-fair : (a : Rates) × Fair r a
   one-is-fair =
       let a : Rates = record { base = filled (problemOf r) .base; numerator = cells (filled (problemOf r) .fixed) } in
       (a, fair-of-general a (fair-filled (problemOf r) sound))
 
-  -- 'and only one'
+  -- and only one.
   pub only-one-is-fair : (a z : Rates) → Fair r a → Fair r z → SameRates r a z
   only-one-is-fair a z fairA fairZ =
       let agreeA = agree-blanked r w a in

@@ -3,13 +3,13 @@ use Prim.Native.Nat.{ℕ, zero, suc, _+_, _*_, _/_, _%_, _≤_, _<_, min}
 use mathlib.Core.Path.{_≡_, refl, ap, ap₂, sym, _∙_}
 use mathlib.Core.Bool.{Bool, true, false, or-false, true≢false}
 use mathlib.Core.Logic.{_⊎_, inl, inr}
-use native.Mathlib.Nat.{add-zero, add-suc, add-assoc, mul-suc, zero-add, not-suc-le-zero}
+use native.Mathlib.Nat.{add-zero, add-suc, add-assoc, mul-suc}
 use native.Mathlib.Omega.{arith}
 use lib.Dec.{eqb}
 use borrow.Author.Tests.{eq-eqb, ne-eqb}
 use Rattle.fairness.specs.Total.{on, total}
 use Rattle.fairness.proofs.Search.{eq-or-not}
-use Rattle.fairness.proofs.Sums.{total-equal, total-on, total-one, one, one-self, one-other}
+use Rattle.fairness.proofs.Sums.{total-equal, total-on, total-one, one, one-self}
 use Rattle.switch.specs.Rates.{sumTo}
 use Rattle.switch.specs.Planned.{passes}
 

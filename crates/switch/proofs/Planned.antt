@@ -1,37 +1,33 @@
 -- The plan of a request is right, and whatever plan is right is that one; its base is within its range.
 use Prim.Native.Nat.{ℕ, _*_, _/_, _≤_, _<_}
-use mathlib.Core.Path.{_≡_, refl, ap, ap₂, sym, _∙_}
+use mathlib.Core.Path.{_≡_, ap, ap₂, sym, _∙_}
 use mathlib.Core.Bool.{true}
 use mathlib.Core.List.{List}
-use mathlib.Core.Logic.{_⊎_, inl, inr}
 use native.Mathlib.Nat.{div-le-self, le-trans, le-antisymm, eq-of-mul-eq-mul-right}
 use native.Mathlib.Omega.{arith}
 use lib.Dec.{lit≤}
-use lib.ListN.{length, getD, length-map}
+use borrow.Author.Tests.{le-ltb}
+use lib.ListN.{length, getD, length-map, List·getD-eq-default}
 use lib.Seq.{ext-getD}
 use Rattle.fairness.specs.Total.{total}
 use Rattle.fairness.specs.Divisor.{gcdOf, divided, GcdOf}
 use Rattle.fairness.specs.Fairness as General
-use Rattle.fairness.specs.Filling.{list, over, filled}
+use Rattle.fairness.specs.Filling.{over, filled}
 use Rattle.fairness.proofs.Divisors.{gcdOf-is}
-use Rattle.fairness.proofs.LeastBase.{divided-pos, least-unique}
+use Rattle.fairness.proofs.LeastBase.{divided-pos}
 use Rattle.fairness.proofs.Lists.{cells-list, length-list}
 use Rattle.fairness.proofs.ProductBound.{ports-bound}
 use Rattle.fairness.proofs.Existence.{fair-filled, base-fits}
 use Rattle.fairness.proofs.Reduced.{reduced-same, reduced-least, length-filled}
 use Rattle.fairness.proofs.Unique.{fair-of-same}
-use Rattle.switch.specs.Cells.{cellOf}
 use Rattle.switch.specs.Within.{Within}
 use Rattle.switch.specs.Rates.{Rates, flow, ratesOf}
-use Rattle.switch.specs.Fairness
-use Rattle.switch.specs.Fairness.{Used, Fair, LeastBase, SameRates, Blank}
+use Rattle.switch.specs.Fairness.{Fair, LeastBase, SameRates, Blank}
 use Rattle.switch.specs.Reason.{reasonOf}
 use Rattle.switch.specs.Planned.{Right, problemOf, planFrom, planOfState, planOf}
 use Rattle.switch.specs.declared.plan.Plan.{Plan}
-use Rattle.switch.specs.declared.port.Input.{Input}
-use Rattle.switch.specs.declared.port.Output.{Output}
 use Rattle.switch.specs.declared.request.Request.{Request}
-use Rattle.switch.proofs.Sharing.{general, by-cell, below-eight, blank-of-allowed}
+use Rattle.switch.proofs.Sharing.{general, by-cell, blank-of-allowed}
 use Rattle.switch.proofs.Agree.{blanked, agree-blanked, blank-blanked}
 use Rattle.switch.proofs.Fair.{sound, fair-of-general, only-one-is-fair}
 
@@ -133,12 +129,25 @@ module _ (r : Request) (w : Within r) (p q : Plan) (rightP : Right r p) (rightQ 
   pub right-unique : p ≡ q
   right-unique = λ i. record { base = same-base i; numerators = same-numerators i; reasons = same-reasons i }
 
+-- Whatever plan is right for a request is its plan.
+pub right-is-planOf : (r : Request) → Within r → (p : Plan) → Right r p → p ≡ planOf r
+right-is-planOf r w p right = right-unique r w p (planOf r) right (right-planOf r w)
+
+-- A number above 63 is an unused cell, with rate 0 and reason 0.
+pub beyond-the-cells : (r : Request) (p : Plan) → Right r p → (c : ℕ) → 64 ≤ c
+    → (getD (p .numerators) c 0 ≡ 0) × (getD (p .reasons) c 0 ≡ 0) × (reasonOf r (ratesOf p) c ≡ 0)
+beyond-the-cells r p right c h = (
+  List·getD-eq-default (p .numerators) 0 (rw (right .cells .0) h),
+  List·getD-eq-default (p .reasons) 0 (rw (right .cells .1) h),
+  rw (le-ltb c 64 h),
+)
+
 -- the 64 weights of 1 that a switch has
 all-weights : total 64 (λ c. true) (λ c. 1) ≤ 64
 unfolding total
 all-weights = lit≤ tt
 
--- 'base of a plan: 1 to 4,294,967,296'
+-- The base keeps to the range that the table 'Numbers' gives it.
 pub base-of-planOf : (r : Request) → Within r → (1 ≤ planOf r .base) × (planOf r .base ≤ 4_294_967_296)
 unfolding planOf planOfState planFrom
 base-of-planOf r w = (

@@ -1,17 +1,16 @@
 -- What a reason says: 0 that the flow has its demand, 1 that its input is a bottleneck, 2 that only its output is.
-use Prim.Native.Nat.{ℕ, zero, suc, _*_, _≤_, _<_}
-use mathlib.Core.Path.{_≡_, refl, ap, sym, _∙_}
-use mathlib.Core.Bool.{Bool, true, false, cond, _&&_}
+use Prim.Native.Nat.{ℕ, zero, suc, _*_, _<_}
+use mathlib.Core.Path.{_≡_, refl}
+use mathlib.Core.Bool.{Bool, true, false, _&&_}
 use mathlib.Core.Logic.{_⊎_, inl, inr}
 use native.Mathlib.Nat.{not-suc-le-zero, ne-of-lt}
 use native.Mathlib.Omega.{arith}
 use lib.Dec.{eqb, leb, ltb}
-use borrow.Author.Tests.{eq-eqb, ne-eqb, eqb-true, eqb-false, lt-ltb, ltb-true, le-leb, leb-true}
+use borrow.Author.Tests.{eq-eqb, ne-eqb, eqb-true, lt-ltb, ltb-true, le-leb, leb-true}
 use Rattle.fairness.proofs.Search.{true-or-false, true-not-false, both-true, true-of-both, below-suc}
 use Rattle.switch.specs.Cells.{output, cellOf, inputCapacity, demandOf}
 use Rattle.switch.specs.Within.{Within}
 use Rattle.switch.specs.Rates.{Rates, flow, inputTotal}
-use Rattle.switch.specs.Fairness
 use Rattle.switch.specs.Fairness.{Used, Fair, InputBottleneck, OutputBottleneck}
 use Rattle.switch.specs.Reason.{every, atDemand, inputHolds, flowReason}
 use Rattle.switch.specs.declared.port.Input.{Input}
@@ -49,18 +48,16 @@ module _ (r : Request) (a : Rates) (u : Input) (v : Output) where
       true-of-both (true-of-both (lt-ltb _ _ (neck .below)) (eq-eqb _ _ (neck .full)))
       (every-of-all (r .n) _ (λ k h. le-leb _ _ (neck .greatest (output k) h)))
 
-  -- '0 if rate equals demand (a demand of 0 included)'
+  -- which reason a flow has:
   pub reason-at-demand : flow a u v ≡ demandOf r (cellOf u v) * a .base → flowReason r a u v ≡ 0
   reason-at-demand e = rw (eq-eqb (flow a u v) (demandOf r (cellOf u v) * a .base) e)
 
   not-at-demand : flow a u v < demandOf r (cellOf u v) * a .base → atDemand r a u v ≡ false
   not-at-demand h = ne-eqb _ _ (ne-of-lt h)
 
-  -- 'otherwise 1 if the input is a bottleneck'
   pub reason-at-input : InputBottleneck r a u v → flowReason r a u v ≡ 1
   reason-at-input neck = rw (not-at-demand (neck .below), holds-of-bottleneck neck)
 
-  -- 'otherwise 2'
   pub reason-otherwise : flow a u v < demandOf r (cellOf u v) * a .base → (InputBottleneck r a u v → ⊥) → flowReason r a u v ≡ 2
   reason-otherwise below free = go (true-or-false (inputHolds r a u v))
     where
@@ -69,7 +66,7 @@ module _ (r : Request) (a : Rates) (u : Input) (v : Output) where
       go (inr e) = rw (not-at-demand below, e)
 
 -- What the reason of a flow says, where the rates are fair: it has its demand; or its input is a bottleneck; or its
--- input is none and '(the output is)'.
+-- input is none and its output is one.
 pub reason-says : (r : Request) → Within r → (a : Rates) → Fair r a → (u : Input) (v : Output) → Used r u v
     → ((flowReason r a u v ≡ 0) × (flow a u v ≡ demandOf r (cellOf u v) * a .base))
     ⊎ (((flowReason r a u v ≡ 1) × InputBottleneck r a u v)

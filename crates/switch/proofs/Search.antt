@@ -6,7 +6,7 @@ use mathlib.Core.Bool.{Bool, true, false}
 use native.Mathlib.Omega.{arith}
 use borrow.Author.Count.{below-none, below-more}
 use Rattle.switch.specs.Given.{Silent, First}
-use Rattle.switch.specs.Rows.{Row, Found, at, nothing, firstFrom, firstOf, refusal, rowVerdict}
+use Rattle.switch.specs.Rows.{Row, at, nothing, firstFrom, firstOf, refusal, rowVerdict}
 use Rattle.switch.specs.declared.verdict.Verdict.the-variants.{Accepted}
 
 module _ (test : ℕ → Bool) where
@@ -75,17 +75,3 @@ searched row (suc n) h = go (searched row n (omega arith)) (row .offends n) refl
 
 pub silent-or-first : (row : Row) → Silent row ⊎ ((i : ℕ) × First row i)
 silent-or-first row = searched row (row .size) (omega arith)
-
--- The search finds only what is there.
-pub first-of-at : (row : Row) (i : ℕ) → firstOf row ≡ at i → First row i
-first-of-at row i e = go (silent-or-first row)
-  where
-    go : Silent row ⊎ ((j : ℕ) × First row j) → First row i
-    go (inl s) =
-        let n = nothing-of-silent row s in
-        let z : _≡_ {A = ℕ} 0 1 = cc in
-        absurd (omega arith)
-    go (inr (j, f)) =
-        let a = at-of-first row f in
-        let same : j ≡ i = cc in
-        subst (First row) same f

@@ -1,27 +1,25 @@
 -- A switch is a problem of sharing: document 01's words for a request say what the general ones say of its problem.
-use Prim.Native.Nat.{ℕ, zero, suc, _+_, _-_, _*_, _≤_, _<_}
+use Prim.Native.Nat.{ℕ, _+_, _-_, _*_, _≤_, _<_}
 use mathlib.Core.Path.{_≡_, refl, ap, sym, _∙_, subst}
-use mathlib.Core.Bool.{Bool, true, false, true≢false}
-use mathlib.Core.Logic.{_⊎_, inl, inr, _≢_}
-use native.Mathlib.Nat.{zero-add, zero-mul, add-sub-of-le, add-sub-cancel-left, mul-one, le-refl}
+use mathlib.Core.Bool.{true, false}
+use mathlib.Core.Logic.{_⊎_, inl, inr}
+use native.Mathlib.Nat.{zero-add, add-sub-of-le, add-sub-cancel-left}
 use native.Mathlib.Omega.{arith}
-use lib.Dec.{eqb, ltb}
 use borrow.Author.Tests.{eq-eqb, eqb-true, lt-ltb, le-ltb}
 use Rattle.fairness.specs.Problem.{across}
 use Rattle.fairness.specs.Fairness as General
 use Rattle.fairness.proofs.Search.{le-or-lt, true-or-false}
-use Rattle.switch.specs.Cells.{input, output, cellOf, inputOf, outputOf, inputLimit, outputLimit, used, usedCell}
+use Rattle.switch.specs.Cells.{input, output, cellOf, inputOf, outputOf, inputLimit, outputLimit, used}
 use Rattle.switch.specs.Cells.{inputCapacity, outputCapacity, demandOf}
 use Rattle.switch.specs.Within.{Within}
 use Rattle.switch.specs.Rates.{Rates, flow, sumTo, inputTotal, outputTotal}
-use Rattle.switch.specs.Fairness
-use Rattle.switch.specs.Fairness.{Used, Feasible, Bounded, Allocation, Blank, InputBottleneck, OutputBottleneck, Settled}
+use Rattle.switch.specs.Fairness.{Used, Allocation, Blank, InputBottleneck, OutputBottleneck}
 use Rattle.switch.specs.Planned.{passes, capacityOf, problemOf}
 use Rattle.switch.specs.declared.port.Input.{Input}
 use Rattle.switch.specs.declared.port.Output.{Output}
 use Rattle.switch.specs.declared.request.Request.{Request}
 use Rattle.switch.proofs.Cells.{cell-of-ports, below-of-used, past-of-unused}
-use Rattle.switch.proofs.Grid.{sumTo-same, sumTo-more, row-total, column-total, passes-input, passes-output}
+use Rattle.switch.proofs.Grid.{sumTo-more, row-total, column-total, passes-input, passes-output}
 
 abbrev pub general : Rates → General.Allocation
 general a = record { base = a .base; numerator = a .numerator }

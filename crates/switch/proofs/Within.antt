@@ -1,5 +1,5 @@
 -- A request is accepted exactly when it is within the limits.
-use Prim.Native.Nat.{ℕ, _+_, _≤_, _<_}
+use Prim.Native.Nat.{ℕ, _≤_, _<_}
 use mathlib.Core.Logic.{_⊎_, inl, inr}
 use mathlib.Core.Path.{_≡_, refl, sym, _∙_, ap, subst}
 use mathlib.Core.Bool.{false, true, not, _&&_}
@@ -14,10 +14,7 @@ use Rattle.switch.specs.Given.{Silent, AllSilent}
 use Rattle.switch.specs.RequestRows.{outside, portsRow, inputsAbove, outputsAbove, capacityRow, demandRow}
 use Rattle.switch.specs.RequestRows.{inputsNotZero, outputsNotZero, cellsNotZero, notZeroRow, requestRows, requestVerdict}
 use Rattle.switch.specs.Rows.{joined}
-use Rattle.switch.specs.Within
 use Rattle.switch.specs.Within.{Within}
-use Rattle.switch.specs.declared.port.Input.{Input}
-use Rattle.switch.specs.declared.port.Output.{Output}
 use Rattle.switch.specs.declared.request.Request.{Request}
 use Rattle.switch.specs.declared.verdict.Verdict.the-variants.{Accepted}
 use Rattle.switch.proofs.Cells.{cell-below, cell-of-ports, below-of-used, used-of-below, unused-of-past, past-of-unused}

@@ -1,4 +1,5 @@
--- 'Given exactly when', in words that compute nothing: which row of a list applies, and where.
+-- When a refusal is given, said without computing anything: which row of a list applies, and where. Document 01 says it
+-- above its table 'Refusal numbers'.
 use Prim.Native.Nat.{ℕ, _<_}
 use mathlib.Core.Path.{_≡_}
 use mathlib.Core.Bool.{true, false}
@@ -8,7 +9,7 @@ use Rattle.switch.specs.Rows.{Row}
 use Rattle.switch.specs.declared.verdict.Verdict.{Verdict}
 use Rattle.switch.specs.declared.verdict.Verdict.the-variants.{Accepted, Refused}
 
--- 'Given exactly when' does not hold of the row: no candidate of it offends.
+-- The row applies nowhere: no candidate of it offends.
 abbrev pub Silent : Row → Type 0
 Silent row = (i : ℕ) → i < row .size → row .offends i ≡ false
 
@@ -16,14 +17,13 @@ Silent row = (i : ℕ) → i < row .size → row .offends i ≡ false
 abbrev pub AllSilent : List Row → Type 0
 AllSilent rows = (row : Row) → List·Memᴰ row rows → Silent row
 
--- 'The place is the first offender in file order or cell order': candidate `i` is the row's.
+-- Candidate i is the first that offends, in the order in which the row counts its candidates.
 pub record First (row : Row) (i : ℕ) : Type 0 where
   pub below : i < row .size
   pub here : row .offends i ≡ true
   pub earlier : (k : ℕ) → k < i → row .offends k ≡ false
 
--- 'Checks run in the order of this table': of these rows `row` applies at place `p`. No row before it has an offender, and `p` is
--- the place of its first one.
+-- Of these rows this one is heard, and its place is p: the rows before it apply nowhere, and its first offender is at p.
 pub record Applies (rows : List Row) (row : Row) (p : ℕ) : Type 0 where
   pub before : List Row
   pub after : List Row
@@ -33,7 +33,7 @@ pub record Applies (rows : List Row) (row : Row) (p : ℕ) : Type 0 where
   pub first : First row offender
   pub place : p ≡ row .place offender
 
--- 'either acceptance, or the refusal together with its place': the verdict gives refusal number `k` at place `p`.
+-- The verdict refuses with number k and place p.
 abbrev pub Gives : Verdict → ℕ → ℕ → Type 0
 Gives Accepted k p = ⊥
 Gives (Refused x) k p = (numberOf (x .cause) ≡ k) × (x .place ≡ p)

@@ -2,7 +2,7 @@
 use Prim.Native.Nat.{ℕ}
 use Rattle.switch.specs.declared.verdict.Cause.{Cause}
 
--- The column 'No.' of the table 'Refusal numbers'.
+-- The first column of document 01's table 'Refusal numbers'.
 abbrev pub numberOf : Cause → ℕ
 numberOf Cause.Length = 1
 numberOf Cause.Check = 2

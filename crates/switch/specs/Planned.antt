@@ -1,15 +1,15 @@
 -- The plan of a request: what makes a plan right, and one way to work it out.
-use Prim.Native.Nat.{ℕ, _/_, _-_, _<_, _≤_}
+use Prim.Native.Nat.{ℕ, _/_, _-_, _<_}
 use mathlib.Core.Bool.{Bool, cond, _||_}
 use mathlib.Core.Path.{_≡_}
 use mathlib.Core.List.{List}
 use lib.Dec.{eqb, ltb}
 use lib.ListN.{length, getD}
 use Rattle.fairness.specs.Problem.{Problem}
-use Rattle.fairness.specs.Filling.{State, list, filled, over}
+use Rattle.fairness.specs.Filling.{State, list, filled}
 use Rattle.fairness.specs.Divisor.{gcdOf, divided}
 use Rattle.switch.specs.Cells.{input, output, inputOf, outputOf, inputLimit, outputLimit, inputCapacity, outputCapacity, demandOf}
-use Rattle.switch.specs.Rates.{Rates, ratesOf}
+use Rattle.switch.specs.Rates.{ratesOf}
 use Rattle.switch.specs.Fairness.{Fair, LeastBase, Blank}
 use Rattle.switch.specs.Reason.{reasonOf}
 use Rattle.switch.specs.declared.plan.Plan.{Plan}

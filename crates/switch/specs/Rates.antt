@@ -7,7 +7,7 @@ use Rattle.switch.specs.declared.port.Input.{Input}
 use Rattle.switch.specs.declared.port.Output.{Output}
 use Rattle.switch.specs.declared.request.Request.{Request}
 
--- 'A rate is a numerator over the plan's base; all rates of a plan share it.' The numerators are numbered by cell.
+-- One rate for each cell, as a numerator over a base that all of them share ('Numbers', its last sentence).
 pub record Rates : Type 0 where
   pub base : ℕ
   pub numerator : ℕ → ℕ
@@ -25,10 +25,10 @@ unfoldable pub sumTo : ℕ → (ℕ → ℕ) → ℕ
 sumTo zero f = 0
 sumTo (suc n) f = sumTo n f + f n
 
--- What 'the rates of an input add up to': one flow to each output from 0 to n − 1.
+-- What the rates of an input add up to: one flow to each output that is used.
 abbrev pub inputTotal : Request → Rates → Input → ℕ
 inputTotal r a u = sumTo (r .n) (λ k. flow a u (output k))
 
--- What the rates of an output add up to: one flow from each input from 0 to m − 1.
+-- What the rates of an output add up to: one flow from each input that is used.
 abbrev pub outputTotal : Request → Rates → Output → ℕ
 outputTotal r a v = sumTo (r .m) (λ k. flow a (input k) v)

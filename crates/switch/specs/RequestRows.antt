@@ -1,15 +1,13 @@
 -- Rows 4 to 7 of document 01's table 'Refusal numbers', for a request that is given as a value.
 use Prim.Native.Nat.{ℕ, _+_}
-use mathlib.Core.Bool.{Bool, true, false, cond, not, _&&_}
+use mathlib.Core.Bool.{Bool, cond, not, _&&_}
 use mathlib.Core.List.{List, [], _∷_}
 use lib.Dec.{leb, ltb}
-use lib.ListN.{getD}
 use Rattle.switch.specs.Cells.{input, output, inputUsed, outputUsed, usedCell, inputCapacity, outputCapacity, demandOf}
 use Rattle.switch.specs.Rows.{Row, joined, verdictOf}
 use Rattle.switch.specs.declared.port.Input.{Input}
 use Rattle.switch.specs.declared.port.Output.{Output}
 use Rattle.switch.specs.declared.request.Request.{Request}
-use Rattle.switch.specs.declared.verdict.Cause.{Cause}
 use Rattle.switch.specs.declared.verdict.Cause.the-variants.{Ports, Capacity, Demand, NotZero}
 use Rattle.switch.specs.declared.verdict.Verdict.{Verdict}
 
