@@ -42,7 +42,9 @@ module _ (P : Problem) (sound : Sound P) (s : State) (at : Between P s) where
   outer = lowest-is (P .flows) (flowNext s) (lowest (P .limits) (limitNext P s) never) (inner .proper)
 
   below-limit : (l : ℕ) → l < P .limits → Below (next P s) (limitNext P s l)
-  below-limit l hl = below-trans (next P s) (lowest (P .limits) (limitNext P s) never) (limitNext P s l) (inner .proper) (outer .beyond) (inner .each l hl)
+  below-limit l hl =
+      below-trans (next P s) (lowest (P .limits) (limitNext P s) never) (limitNext P s l) (inner .proper) (outer .beyond)
+      (inner .each l hl)
 
   fixed-fits : (l : ℕ) → l < P .limits → across P l (cells (s .fixed)) ≤ P .capacity l * s .base
   fixed-fits l hl =

@@ -12,3 +12,4 @@ pub mod Fair
 pub mod Reason
 pub mod Planned
 pub mod Drawn
+pub mod Determined

@@ -4,29 +4,37 @@ use mathlib.Core.Path.{sym, _∙_}
 use native.Mathlib.Omega.{arith}
 use borrow.Author.Needs.{needs}
 use Rattle.switch.specs.RequestRows.{portsRow}
+use Rattle.switch.specs.Rows.{Row}
 use Rattle.switch.specs.Tables.{requestOf}
 use Rattle.switch.proofs.Search.{Passed, passed-none, passed-more, row-refuses, row-accepts}
 use Rattle.switch.proofs.check.ports_row.Statement.{statement}
 use Rattle.switch.proofs.check.ports_row.Tie as tie
 
+-- The row of the two numbers that were passed.
+row : tie.After-outside → Row
+row c = portsRow (requestOf (c .before .args .m) (c .before .args .n) [] [] [])
+
 -- After the first test failed, m has been passed.
-m-passed : (c : tie.Else1) → Passed (portsRow (requestOf (c .before .before .args .m) (c .before .before .args .n) [] [] [])) 1
-m-passed c =
-    passed-more (passed-none (portsRow (requestOf (c .before .before .args .m) (c .before .before .args .n) [] [] []))) (omega arith) (sym (c .before .outside .ensures) ∙ c .if1 .left)
+m-passed : (c : tie.Else1) → Passed (row (c .before)) 1
+unfolding row
+m-passed c = passed-more (passed-none (row (c .before))) (omega arith) (sym (c .before .outside .ensures) ∙ c .if1 .left)
 
 returns : tie.Need-returns
+unfolding row
 returns c =
     c .refused .ensures
-    ∙ sym (row-refuses (passed-none (portsRow (requestOf (c .before .before .before .args .m) (c .before .before .before .args .n) [] [] []))) (omega arith)
+    ∙ sym (row-refuses (passed-none (row (c .before .before))) (omega arith)
     (sym (c .before .before .outside .ensures) ∙ c .before .if1 .taken))
 
 returns-2 : tie.Need-returns-2
+unfolding row
 returns-2 c =
     c .refused2 .ensures
     ∙ sym (row-refuses (m-passed (c .before .before .before)) (omega arith)
     (sym (c .before .before .outside2 .ensures) ∙ c .before .if2 .taken))
 
 returns-3 : tie.Need-returns-3
+unfolding row
 returns-3 c =
     sym (row-accepts (passed-more (m-passed (c .before .before)) (omega arith)
     (sym (c .before .outside2 .ensures) ∙ c .if2 .left)) (omega arith))

@@ -19,7 +19,9 @@ abbrev μ-loop : tie.MeasureT-loop
 
 -- The part that is searched, and how far, seen from where the test has been made.
 part : tie.After-above Inv-loop μ-loop → Row
-part a = let args = a .before .before .before .before .before .before .args in portsOver (args .cause) (args .from) (args .used) (args .count) (args .most) (now (args .table))
+part a =
+    let args = a .before .before .before .before .before .before .args in
+    portsOver (args .cause) (args .from) (args .used) (args .count) (args .most) (now (args .table))
 
 passed : (a : tie.After-above Inv-loop μ-loop) → Passed (part a) (a .before .before .before .before .loop .i)
 unfolding part
