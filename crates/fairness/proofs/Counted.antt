@@ -2,7 +2,7 @@
 -- there are few of them and their sum is small.
 use Prim.Native.Nat.{ℕ, _+_, _*_, _≤_, _<_}
 use mathlib.Core.Path.{_≡_, refl, ap, _∙_}
-use mathlib.Core.Bool.{Bool, true, false}
+use mathlib.Core.Bool.{true, false}
 use mathlib.Core.List.{_∷_}
 use mathlib.Core.Logic.{_⊎_, inl, inr}
 use native.Mathlib.Nat.{mul-comm}
@@ -12,17 +12,9 @@ use Rattle.fairness.specs.Total.{on}
 use Rattle.fairness.specs.Product.{sum, product}
 use Rattle.fairness.specs.Problem.{Problem, across}
 use Rattle.fairness.specs.Filling.{State, cells}
-use Rattle.fairness.specs.Round.{Shutting, Moved, kept, met, shutOff, freed, Step, isOpen, Counted}
+use Rattle.fairness.specs.Round.{live, Shutting, Moved, kept, met, shutOff, freed, Step, isOpen, Counted}
 use Rattle.fairness.proofs.Search.{eq-or-not, true-or-false}
-use Rattle.fairness.proofs.Sums.{total-linear, total-le, total-on, total-one, one, one-self, one-other}
-
-on-one : (s t : Bool) → (s ≡ true → t ≡ true) → on s 1 ≤ on t 1
-on-one true t h = rw (h refl) (omega arith)
-on-one false t h = omega arith
-
--- the weight of a flow that rises or waits
-abbrev live : State → ℕ → ℕ
-live s c = cells (s .rising) c + cells (s .waiting) c
+use Rattle.fairness.proofs.Sums.{on-one, total-linear, total-le, total-on, total-one, one, one-self, one-other}
 
 module _ (P : Problem) (s t : State) (a k m : ℕ) (step : Step P s t a k m) where
   fewer : (c : ℕ) → c < P .flows → Moved P s t a k m c → live t c ≤ live s c

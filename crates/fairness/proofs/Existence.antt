@@ -5,15 +5,16 @@ use mathlib.Core.Bool.{Bool, true, false}
 use mathlib.Core.List.{List}
 use native.Mathlib.Numerals.{add-one}
 use native.Mathlib.Omega.{arith}
+use lib.Dec.{ltb}
 use lib.ListN.{length}
 use Rattle.fairness.specs.Total.{on, total}
 use Rattle.fairness.specs.Product.{sum, product}
-use Rattle.fairness.specs.Problem.{Problem, Sound}
+use Rattle.fairness.specs.Problem.{Problem, Sound, across}
 use Rattle.fairness.specs.Fairness.{Allocation, Fair}
-use Rattle.fairness.specs.Filling.{State, start, filled, ratesOf}
-use Rattle.fairness.specs.Round.{opens, isOpen}
+use Rattle.fairness.specs.Filling.{filled, ratesOf}
+use Rattle.fairness.specs.Round.{busy, busyWeight, busyLimits}
 use Rattle.fairness.proofs.Sums.{total-le}
-use Rattle.fairness.proofs.Start.{afoot-at-start}
+use Rattle.fairness.proofs.Start.{afoot-at-start, opens-at-start}
 use Rattle.fairness.proofs.Filling.{filled-ends}
 
 pub fair-filled : (P : Problem) → Sound P → Fair P (ratesOf (filled P))
@@ -27,24 +28,32 @@ unfolding total
 total-ones zero = refl
 total-ones (suc n) = ap (λ k. k + 1) (total-ones n) ∙ add-one n
 
-on-at-most-one : (b : Bool) → on b 1 ≤ 1
-on-at-most-one true = omega arith
-on-at-most-one false = omega arith
+on-at-most : (b : Bool) (k : ℕ) → on b k ≤ k
+on-at-most true k = omega arith
+on-at-most false k = omega arith
 
-opens-at-most-limits : (P : Problem) (s : State) → opens P s ≤ P .limits
-opens-at-most-limits P s =
+-- No more limits hold flows that ask than there are limits, and such flows weigh no more than all.
+pub busy-limits-at-most : (P : Problem) → busyLimits P ≤ P .limits
+busy-limits-at-most P =
     let sums =
-    total-le (P .limits) (λ l. true) (λ l. on (isOpen P s l) 1) (λ l. 1) 1 1
-    (λ l hl e. omega (arith, on-at-most-one (isOpen P s l))) in
+    total-le (P .limits) (λ l. true) (λ l. on (ltb 0 (across P l (busy P))) 1) (λ l. 1) 1 1
+    (λ l hl e. omega (arith, on-at-most (ltb 0 (across P l (busy P))) 1)) in
     omega (arith, total-ones (P .limits))
 
--- The base is a product of at most as many divisors as there are limits, and they add up to at most all weights; so
--- whatever bounds such products bounds the base.
-pub base-fits : (P : Problem) → Sound P → (j S m : ℕ) → P .limits ≤ j → total (P .flows) (λ c. true) (P .weight) ≤ S
+pub busy-weight-at-most : (P : Problem) → busyWeight P ≤ total (P .flows) (λ c. true) (P .weight)
+busy-weight-at-most P =
+    let sums =
+    total-le (P .flows) (λ c. true) (busy P) (P .weight) 1 1
+    (λ c hc e. omega (arith, on-at-most (ltb 0 (P .demand c)) (P .weight c))) in
+    omega arith
+
+-- The base is a product of at most as many divisors as limits hold flows that ask, and they add up to at most the
+-- weights of these; so whatever bounds such products bounds the base.
+pub base-fits : (P : Problem) → Sound P → (j S m : ℕ) → busyLimits P ≤ j → busyWeight P ≤ S
     → ((ks : List ℕ) → length ks ≤ j → sum ks ≤ S → product ks ≤ m) → filled P .base ≤ m
 base-fits P sound j S m limits weights bound =
     let counted = filled-ends P sound .counted in
     rw (counted .base)
     (bound (counted .divisors)
-    (omega (arith, counted .few, opens-at-most-limits P (start P)))
+    (omega (arith, counted .few, opens-at-start P sound))
     (omega (arith, counted .small, afoot-at-start P sound)))

@@ -1,5 +1,5 @@
 -- A filling starts at level 0, with nothing counted yet.
-use Prim.Native.Nat.{ℕ, _+_, _≤_, _<_}
+use Prim.Native.Nat.{ℕ, _*_, _≤_, _<_}
 use mathlib.Core.Path.{_≡_, refl, _∙_}
 use mathlib.Core.Bool.{true, _&&_, and-false}
 use mathlib.Core.List.{[]}
@@ -7,13 +7,13 @@ use mathlib.Core.Logic.{_⊎_, inl, inr}
 use native.Mathlib.Nat.{eq-zero-or-pos, ne-of-gt}
 use native.Mathlib.Omega.{arith}
 use lib.Dec.{eqb, ltb}
-use borrow.Author.Tests.{lt-ltb, ne-eqb}
-use Rattle.fairness.specs.Total.{on, total}
+use borrow.Author.Tests.{lt-ltb, ltb-true, ne-eqb}
+use Rattle.fairness.specs.Total.{on}
 use Rattle.fairness.specs.Product.{sum, product}
-use Rattle.fairness.specs.Problem.{Problem, Sound}
+use Rattle.fairness.specs.Problem.{Problem, Sound, across}
 use Rattle.fairness.specs.Filling.{cells, start}
-use Rattle.fairness.specs.Round.{Stage, rises, waits, stopped, Underway, Counted, afoot}
-use Rattle.fairness.proofs.Sums.{total-le}
+use Rattle.fairness.specs.Round.{Stage, rises, waits, stopped, Underway, Counted, live, afoot, isOpen, opens, busy, busyWeight, busyLimits}
+use Rattle.fairness.proofs.Sums.{total-le, on-one}
 use Rattle.fairness.proofs.Lists.{cells-list}
 
 module _ (P : Problem) (sound : Sound P) where
@@ -76,16 +76,39 @@ module _ (P : Problem) (sound : Sound P) where
   unfolding start sum product
   counted-at-start = record { divisors = []; base = refl; few = omega arith; small = omega arith }
 
-  -- no more weights are afoot than there are
-  live-at-start : (c : ℕ) → c < P .flows → Stage P (start P) 0 1 c
-      → cells (start P .rising) c + cells (start P .waiting) c ≤ P .weight c
-  live-at-start c hc (rises r) = omega (arith, r .up, r .calm)
-  live-at-start c hc (waits w) = omega (arith, w .still, w .waits)
-  live-at-start c hc (stopped old) = omega (arith, old .still, old .calm)
+  -- only flows that ask for something are afoot
+  live-at-start : (c : ℕ) → c < P .flows → (P .minimum c ≡ 0) ⊎ (0 < P .minimum c) → (P .demand c ≡ 0) ⊎ (0 < P .demand c)
+      → live (start P) c ≤ busy P c
+  live-at-start c hc (inr low) t =
+      rw (
+        rising-at-start c hc,
+        waiting-at-start c hc,
+        ne-eqb (P .minimum c) 0 (ne-of-gt low),
+        and-false,
+        lt-ltb 0 (P .minimum c) low,
+        lt-ltb 0 (P .demand c) (omega (arith, sound .least c hc)),
+      )
+      (omega arith)
+  live-at-start c hc (inl none) (inl silent) =
+      rw (rising-at-start c hc, waiting-at-start c hc, none, silent) (omega arith)
+  live-at-start c hc (inl none) (inr asks) =
+      rw (rising-at-start c hc, waiting-at-start c hc, none, lt-ltb 0 (P .demand c) asks) (omega arith)
 
-  pub afoot-at-start : afoot P (start P) ≤ total (P .flows) (λ c. true) (P .weight)
+  live-busy : (c : ℕ) → c < P .flows → live (start P) c * 1 ≤ busy P c * 1
+  live-busy c hc = omega (arith, live-at-start c hc (eq-zero-or-pos (P .minimum c)) (eq-zero-or-pos (P .demand c)))
+
+  pub afoot-at-start : afoot P (start P) ≤ busyWeight P
   afoot-at-start =
+      let sums = total-le (P .flows) (λ c. true) (live (start P)) (busy P) 1 1 (λ c hc e. live-busy c hc) in omega arith
+
+  pub opens-at-start : opens P (start P) ≤ busyLimits P
+  opens-at-start =
       let sums =
-      total-le (P .flows) (λ c. true) (λ c. cells (start P .rising) c + cells (start P .waiting) c) (P .weight) 1 1
-      (λ c hc e. omega (arith, live-at-start c hc (underway-at-start .stage c hc))) in
+      total-le (P .limits) (λ l. true) (λ l. on (isOpen P (start P) l) 1) (λ l. on (ltb 0 (across P l (busy P))) 1) 1 1
+      (λ l hl e. omega (arith, on-one (isOpen P (start P) l) (ltb 0 (across P l (busy P))) (open-busy l))) in
       omega arith
+    where
+      open-busy : (l : ℕ) → isOpen P (start P) l ≡ true → ltb 0 (across P l (busy P)) ≡ true
+      open-busy l e =
+          let sums = total-le (P .flows) (P .through l) (live (start P)) (busy P) 1 1 (λ c hc m. live-busy c hc) in
+          lt-ltb 0 (across P l (busy P)) (omega (arith, ltb-true 0 (across P l (live (start P))) e))

@@ -93,3 +93,8 @@ pub total-on : (n : ℕ) (inSet : ℕ → Bool) (x : ℕ → ℕ) → total n (�
 unfolding total
 total-on zero inSet x = refl
 total-on (suc n) inSet x = rw (total-on n inSet x)
+
+-- Counting: what passes one test passes the other.
+pub on-one : (s t : Bool) → (s ≡ true → t ≡ true) → on s 1 ≤ on t 1
+on-one true t h = rw (h refl) (omega arith)
+on-one false t h = omega arith

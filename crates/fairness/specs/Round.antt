@@ -98,17 +98,30 @@ pub record Step (P : Problem) (s t : State) (a k m : ℕ) : Type 0 where
   pub base : t .base ≡ s .base * m
   pub moved : (c : ℕ) → c < P .flows → Moved P s t a k m c
 
--- The weights that rise or wait.
+-- The weight of a flow that rises or waits, 0 of one that has stopped; and all of them added up.
+abbrev pub live : State → ℕ → ℕ
+live s c = cells (s .rising) c + cells (s .waiting) c
+
 abbrev pub afoot : Problem → State → ℕ
-afoot P s = total (P .flows) (λ c. true) (λ c. cells (s .rising) c + cells (s .waiting) c)
+afoot P s = total (P .flows) (λ c. true) (live s)
 
 -- Something rises or waits in limit l.
 abbrev pub isOpen : Problem → State → ℕ → Bool
-isOpen P s l = ltb 0 (across P l (λ c. cells (s .rising) c + cells (s .waiting) c))
+isOpen P s l = ltb 0 (across P l (live s))
 
 -- How many limits are open.
 abbrev pub opens : Problem → State → ℕ
 opens P s = total (P .limits) (λ l. true) (λ l. on (isOpen P s l) 1)
+
+-- Only flows that ask for something ever rise or wait: their weights, and how many limits hold one of them.
+abbrev pub busy : Problem → ℕ → ℕ
+busy P c = on (ltb 0 (P .demand c)) (P .weight c)
+
+abbrev pub busyWeight : Problem → ℕ
+busyWeight P = total (P .flows) (λ c. true) (busy P)
+
+abbrev pub busyLimits : Problem → ℕ
+busyLimits P = total (P .limits) (λ l. true) (λ l. on (ltb 0 (across P l (busy P))) 1)
 
 -- The base is the product of the divisors so far. Each closed a limit, and stopped flows of that many weights.
 pub record Counted (P : Problem) (s₀ s : State) : Type 0 where

@@ -17,7 +17,7 @@ use Rattle.fairness.proofs.Divisors.{gcdOf-is}
 use Rattle.fairness.proofs.LeastBase.{divided-pos}
 use Rattle.fairness.proofs.Lists.{cells-list, length-list}
 use Rattle.fairness.proofs.ProductBound.{ports-bound}
-use Rattle.fairness.proofs.Existence.{fair-filled, base-fits}
+use Rattle.fairness.proofs.Existence.{fair-filled, base-fits, busy-limits-at-most, busy-weight-at-most}
 use Rattle.fairness.proofs.Reduced.{reduced-same, reduced-least, length-filled}
 use Rattle.fairness.proofs.Unique.{fair-of-same}
 use Rattle.switch.specs.Within.{Within}
@@ -153,5 +153,6 @@ unfolding planOf planOfState planFrom
 base-of-planOf r w = (
   right-planOf r w .fair .allocation .positive,
   le-trans (div-le-self (filled (problemOf r) .base) _)
-      (base-fits (problemOf r) (sound r w) 16 64 4_294_967_296 (lit≤ tt) all-weights ports-bound),
+      (base-fits (problemOf r) (sound r w) 16 64 4_294_967_296 (busy-limits-at-most (problemOf r))
+      (le-trans (busy-weight-at-most (problemOf r)) all-weights) ports-bound),
 )
