@@ -11,5 +11,6 @@ pub mod Agree
 pub mod Fair
 pub mod Reason
 pub mod Planned
+pub mod Shown
 pub mod Drawn
 pub mod Determined

@@ -6,6 +6,7 @@ pub mod Rates
 pub mod Fairness
 pub mod Reason
 pub mod Planned
+pub mod Shown
 pub mod Values
 pub mod Numbering
 pub mod Rows
