@@ -1,3 +1,4 @@
+-- What follows from the definitions of fairness, from the laws of sums up to existence, uniqueness and entitlement.
 pub mod Search
 pub mod Sums
 pub mod Settled

@@ -1,3 +1,4 @@
+-- Problems of sharing over a list of limits: what fair is, how to fill, and how large a base can get.
 pub mod Total
 pub mod Problem
 pub mod Fairness
