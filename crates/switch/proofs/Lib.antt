@@ -14,3 +14,4 @@ pub mod Planned
 pub mod Shown
 pub mod Drawn
 pub mod Determined
+pub mod Values

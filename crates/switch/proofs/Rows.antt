@@ -22,6 +22,9 @@ pub verdict-end : verdictOf [] ≡ Accepted
 unfolding verdictOf
 verdict-end = refl
 
+pub refusal-gives : (c : Cause) (p : ℕ) → Gives (refusal c p) (numberOf c) p
+refusal-gives c p = (refl, refl)
+
 pub or-else-accepted : (v : Verdict) → orElse v Accepted ≡ v
 or-else-accepted Accepted = refl
 or-else-accepted (Refused x) = refl
