@@ -24,6 +24,13 @@ input-of-cell u v hu hv = ap input (omega arith)
 pub output-of-cell : (u : Input) (v : Output) → v .0 < 8 → outputOf (cellOf u v) ≡ v
 output-of-cell u v hv = ap output (omega arith)
 
+-- A number above 63 is no cell: its input is one that no switch has, and it is not used.
+pub input-beyond : (c : ℕ) → 64 ≤ c → inputOf c ≡ input 8
+input-beyond c h = ap input (omega arith)
+
+pub unused-beyond : (r : Request) (c : ℕ) → 64 ≤ c → usedCell r c ≡ false
+unused-beyond r c h = rw (le-ltb c 64 h)
+
 pub used-of-below : (r : Request) (u : Input) (v : Output) → u .0 < r .m → v .0 < r .n → used r u v ≡ true
 used-of-below r u v hu hv = simp (lt-ltb _ _ hu, lt-ltb _ _ hv)
 

@@ -6,7 +6,6 @@ use mathlib.Core.List.{List}
 use native.Mathlib.Nat.{div-le-self, le-trans, le-antisymm, eq-of-mul-eq-mul-right}
 use native.Mathlib.Omega.{arith}
 use lib.Dec.{lit≤}
-use borrow.Author.Tests.{le-ltb}
 use lib.ListN.{length, getD, length-map, List·getD-eq-default}
 use lib.Seq.{ext-getD}
 use Rattle.fairness.specs.Total.{total}
@@ -27,6 +26,7 @@ use Rattle.switch.specs.Reason.{reasonOf}
 use Rattle.switch.specs.Planned.{Right, problemOf, planFrom, planOfState, planOf}
 use Rattle.switch.specs.declared.plan.Plan.{Plan}
 use Rattle.switch.specs.declared.request.Request.{Request}
+use Rattle.switch.proofs.Cells.{unused-beyond}
 use Rattle.switch.proofs.Sharing.{general, by-cell, blank-of-allowed}
 use Rattle.switch.proofs.Agree.{blanked, agree-blanked, blank-blanked}
 use Rattle.switch.proofs.Fair.{sound, fair-of-general, only-one-is-fair}
@@ -139,7 +139,7 @@ pub beyond-the-cells : (r : Request) (p : Plan) → Right r p → (c : ℕ) → 
 beyond-the-cells r p right c h = (
   List·getD-eq-default (p .numerators) 0 (rw (right .cells .0) h),
   List·getD-eq-default (p .reasons) 0 (rw (right .cells .1) h),
-  rw (le-ltb c 64 h),
+  rw (unused-beyond r c h),
 )
 
 -- the 64 weights of 1 that a switch has
