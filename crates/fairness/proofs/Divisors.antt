@@ -3,7 +3,7 @@ use Prim.Native.Nat.{ℕ, zero, suc, _+_, _*_, _/_, _%_, _<_, _∣_}
 use mathlib.Core.Path.{_≡_, ap}
 use mathlib.Core.List.{List, [], _∷_}
 use native.Mathlib.Nat.{dvd-refl, dvd-zero, dvd-trans, dvd-mul-right-of-dvd, dvd-mod-iff, dvd-add-iff-right, dvd-antisymm}
-use native.Mathlib.Nat.{mul-dvd-mul-left, div-add-mod, mul-assoc, one-mul, mod-lt, not-suc-le-zero, pos-of-dvd-of-pos}
+use native.Mathlib.Nat.{mul-dvd-mul-left, div-add-mod, mul-assoc, one-mul, mod-lt, not-suc-le-zero}
 use native.Mathlib.Omega.{arith}
 use Rattle.fairness.specs.Divisor.{euclid, gcd, gcdOf, Gcd, GcdOf}
 
@@ -69,6 +69,3 @@ gcdOf-unique {b} {g} {h} {xs} p q = dvd-antisymm (divides p q) (divides q p)
   where
     divides : {g h : ℕ} → GcdOf b xs g → GcdOf b xs h → g ∣ h
     divides {g} p q = rw one-mul at (q .most 1 g (rw one-mul (p .base)) (λ i l. rw one-mul (p .each i)))
-
-pub gcdOf-pos : (b : ℕ) (xs : List ℕ) → 0 < b → 0 < gcdOf b xs
-gcdOf-pos b xs pos = pos-of-dvd-of-pos (gcdOf-is b xs .base) pos

@@ -3,11 +3,10 @@ use Prim.Native.Nat.{ℕ, _*_, _/_, _≤_, _<_, _∣_}
 use mathlib.Core.Path.{_≡_, ap, _∙_}
 use mathlib.Core.List.{List}
 use native.Mathlib.Nat.{div-mul-cancel, dvd-mul-left, dvd-mul-right, dvd-of-mul-dvd-mul-right, eq-of-mul-eq-mul-right, le-antisymm, le-of-dvd}
-use native.Mathlib.Nat.{mul-assoc, mul-comm, mul-dvd-mul-right, mul-one, one-dvd, pos-of-dvd-of-pos, zero-div}
+use native.Mathlib.Nat.{mul-comm, pos-of-dvd-of-pos, zero-div}
 use native.Mathlib.Omega.{arith}
-use lib.ListN.{length, getD, length-map, List·getD-map}
-use Rattle.fairness.specs.Divisor.{gcdOf, divided, GcdOf}
-use Rattle.fairness.proofs.Divisors.{gcdOf-is, gcdOf-unique}
+use lib.ListN.{length, getD, List·getD-map}
+use Rattle.fairness.specs.Divisor.{divided, GcdOf}
 
 -- Division changes no rate. Here and below g is any greatest common divisor, so that a program may find it in its own way.
 pub divided-same : {b g : ℕ} {xs : List ℕ} → GcdOf b xs g → (i : ℕ) → getD xs i 0 / g * b ≡ getD xs i 0 * (b / g)
@@ -41,19 +40,3 @@ least-unique n b₁ b₂ x₁ x₂ pos same h k =
 
 pub getD-divided : (xs : List ℕ) (g i : ℕ) → getD (divided g xs) i 0 ≡ getD xs i 0 / g
 getD-divided xs g i = rw zero-div at (List·getD-map (λ x. x / g) xs i 0)
-
-pub reduced-is-one : {b g : ℕ} {xs : List ℕ} → GcdOf b xs g → 0 < b → GcdOf (b / g) (divided g xs) 1
-reduced-is-one {b} {g} {xs} r pos = record {
-  base = one-dvd (b / g);
-  each = λ i. one-dvd (getD (divided g xs) i 0);
-  most = λ n d hb hx.
-      let all : d * g ∣ n * g = r .most n (d * g) (scaled n d b (r .base) hb)
-      (λ i h. scaled n d (getD xs i 0) (r .each i) (rw (getD-divided xs g i) at (hx i (rw length-map h)))) in
-      rw mul-one (dvd-of-mul-dvd-mul-right d (pos-of-dvd-of-pos (r .base) pos) all);
-}
-  where
-    scaled : (n d x : ℕ) → g ∣ x → d ∣ n * (x / g) → d * g ∣ n * x
-    scaled n d x gx h = rw (mul-assoc, div-mul-cancel g gx) at (mul-dvd-mul-right d h g)
-
-pub reduced-gcd-one : {b g : ℕ} {xs : List ℕ} → GcdOf b xs g → 0 < b → gcdOf (b / g) (divided g xs) ≡ 1
-reduced-gcd-one {b} {g} {xs} r pos = gcdOf-unique (gcdOf-is (b / g) (divided g xs)) (reduced-is-one r pos)

@@ -64,8 +64,8 @@ least-or-none zero Q R key size pos each = inl (λ i h. absurd (not-suc-le-zero 
 least-or-none (suc n) Q R key size pos each =
     go (least-or-none n Q R key size (λ i h. pos i (omega arith)) (λ i h. each i (omega arith))) (each n (omega arith))
   where
-    Least : ℕ → ℕ → ℕ → Type 0
-    Least m i j = Q j ⊎ (key i * size j ≤ key j * size i)
+    Least : ℕ → ℕ → Type 0
+    Least i j = Q j ⊎ (key i * size j ≤ key j * size i)
 
     chain : (i j k : ℕ) → 0 < size j → key i * size j ≤ key j * size i → key j * size k ≤ key k * size j
         → key i * size k ≤ key k * size i
@@ -73,16 +73,16 @@ least-or-none (suc n) Q R key size pos each =
         le-of-mul-le-mul-right {k = size j}
         (omega (arith, mul-le-mul-right (size k) h, mul-le-mul-right (size i) l)) p
 
-    pick : (w : (i : ℕ) × (i < n) × R i × ((j : ℕ) → j < n → Least n i j)) → R n
+    pick : (w : (i : ℕ) × (i < n) × R i × ((j : ℕ) → j < n → Least i j)) → R n
         → (key (w .0) * size n ≤ key n * size (w .0)) ⊎ (key n * size (w .0) < key (w .0) * size n)
-        → (i : ℕ) × (i < suc n) × R i × ((j : ℕ) → j < suc n → Least n i j)
+        → (i : ℕ) × (i < suc n) × R i × ((j : ℕ) → j < suc n → Least i j)
     pick w r (inl h) =
-        (w .0, (let l = w .1 in omega arith), w .2, below-suc (λ j. Least n (w .0) j) n (w .3) (inr h))
+        (w .0, (let l = w .1 in omega arith), w .2, below-suc (λ j. Least (w .0) j) n (w .3) (inr h))
     pick w r (inr h) = (
       n,
       (omega arith),
       r,
-      below-suc (λ j. Least n n j) n
+      below-suc (λ j. Least n j) n
           (λ j l. elim (w .3 j l) [
             | inl q ↦ inl q
             | inr k ↦ inr (chain n (w .0) j (pos (w .0) (let e = w .1 in omega arith)) (omega arith) k)
@@ -90,10 +90,10 @@ least-or-none (suc n) Q R key size pos each =
           (inr (omega arith)),
     )
 
-    go : ((i : ℕ) → i < n → Q i) ⊎ ((i : ℕ) × (i < n) × R i × ((j : ℕ) → j < n → Least n i j)) → Q n ⊎ R n
-        → ((i : ℕ) → i < suc n → Q i) ⊎ ((i : ℕ) × (i < suc n) × R i × ((j : ℕ) → j < suc n → Least n i j))
+    go : ((i : ℕ) → i < n → Q i) ⊎ ((i : ℕ) × (i < n) × R i × ((j : ℕ) → j < n → Least i j)) → Q n ⊎ R n
+        → ((i : ℕ) → i < suc n → Q i) ⊎ ((i : ℕ) × (i < suc n) × R i × ((j : ℕ) → j < suc n → Least i j))
     go (inl below) (inl q) = inl (below-suc Q n below q)
-    go (inl below) (inr r) = inr (n, (omega arith), r, below-suc (λ j. Least n n j) n (λ j l. inl (below j l)) (inr (omega arith)))
+    go (inl below) (inr r) = inr (n, (omega arith), r, below-suc (λ j. Least n j) n (λ j l. inl (below j l)) (inr (omega arith)))
     go (inr w) (inl q) =
-        inr (w .0, (let l = w .1 in omega arith), w .2, below-suc (λ j. Least n (w .0) j) n (w .3) (inl q))
+        inr (w .0, (let l = w .1 in omega arith), w .2, below-suc (λ j. Least (w .0) j) n (w .3) (inl q))
     go (inr w) (inr r) = inr (pick w r (le-or-lt (key (w .0) * size n) (key n * size (w .0))))

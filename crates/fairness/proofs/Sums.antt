@@ -44,7 +44,7 @@ on-zero true = refl
 on-zero false = refl
 
 -- A sum over the flow f alone.
-pub total-one-out : (n : ℕ) (inSet : ℕ → Bool) (f : ℕ) → n ≤ f → total n inSet (one f) ≡ 0
+total-one-out : (n : ℕ) (inSet : ℕ → Bool) (f : ℕ) → n ≤ f → total n inSet (one f) ≡ 0
 unfolding total
 total-one-out zero inSet f h = refl
 total-one-out (suc n) inSet f h =
