@@ -11,9 +11,10 @@ use borrow.Author.Tests.{ltb-true, lt-ltb, le-ltb}
 use Rattle.fairness.specs.Total.{on}
 use Rattle.fairness.specs.Product.{sum, product}
 use Rattle.fairness.specs.Problem.{Problem, across}
-use Rattle.fairness.specs.Filling.{State, cells}
+use Rattle.laws.specs.Lists.{cells}
+use Rattle.fairness.specs.Filling.{State}
 use Rattle.fairness.specs.Round.{live, Shutting, Moved, kept, met, shutOff, freed, Step, isOpen, Counted}
-use Rattle.fairness.proofs.Search.{eq-or-not, true-or-false}
+use Rattle.laws.proofs.Search.{eq-or-not, true-or-false}
 use Rattle.fairness.proofs.Sums.{on-one, total-linear, total-le, total-on, total-one, one, one-self, one-other}
 
 module _ (P : Problem) (s t : State) (a k m : ℕ) (step : Step P s t a k m) where

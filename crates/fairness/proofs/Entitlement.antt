@@ -13,7 +13,7 @@ use Rattle.fairness.specs.Total.{on}
 use Rattle.fairness.specs.Problem.{Problem}
 use Rattle.fairness.specs.Fairness.{Allocation, Allowed, AtMost, Fair, Bottleneck, SettledAt}
 use Rattle.fairness.specs.Entitlement.{asking, sharing}
-use Rattle.fairness.proofs.Search.{le-or-lt, eq-or-not, true-or-false}
+use Rattle.laws.proofs.Search.{le-or-lt, eq-or-not, true-or-false}
 use Rattle.fairness.proofs.Sums.{total-le, member-le-total}
 use Rattle.fairness.proofs.Settled.{settled-of-fair, fair-of-settled}
 use Rattle.fairness.proofs.Unique.{same-of-fair}

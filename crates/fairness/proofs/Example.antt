@@ -7,7 +7,8 @@ use mathlib.Core.Path.{_≡_, refl}
 use lib.Dec.{eqb, leb}
 use Rattle.fairness.specs.Total.{on, total}
 use Rattle.fairness.specs.Problem.{Problem}
-use Rattle.fairness.specs.Filling.{listFrom, list, start, lowest, next, some, stopMet, shut, free, happen, round, fill, work, filled}
+use Rattle.laws.specs.Lists.{listFrom, list}
+use Rattle.fairness.specs.Filling.{start, lowest, next, some, stopMet, shut, free, happen, round, fill, work, filled}
 
 -- flow 4u + v passes limit u, its input, and limit 4 + v, its output
 triangle : (ℕ → ℕ) → (ℕ → ℕ) → Problem

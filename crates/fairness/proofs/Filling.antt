@@ -10,11 +10,12 @@ use borrow.Author.Tests.{eqb-true, eqb-false}
 use Rattle.fairness.specs.Total.{on}
 use Rattle.fairness.specs.Problem.{Problem, Sound, across}
 use Rattle.fairness.specs.Fairness.{Fair}
-use Rattle.fairness.specs.Filling.{State, cells, start, never, left, limitNext, flowNext, lowest, next, meets, some}
+use Rattle.laws.specs.Lists.{cells}
+use Rattle.fairness.specs.Filling.{State, start, never, left, limitNext, flowNext, lowest, next, meets, some}
 use Rattle.fairness.specs.Filling.{stopMet, shut, free, happen, round, fill, work, filled, ratesOf}
 use Rattle.fairness.specs.Round.{Stage, rises, waits, stopped, Underway, Reached, Shutting, Step, Counted}
 use Rattle.fairness.proofs.Sums.{member-le-total}
-use Rattle.fairness.proofs.Lists.{none-of-some, one-of-some}
+use Rattle.fairness.proofs.Some.{none-of-some, one-of-some}
 use Rattle.fairness.proofs.Lowest.{Below, Lowest, lowest-is, below-trans}
 use Rattle.fairness.proofs.Round.{underway-after, fair-at-end}
 use Rattle.fairness.proofs.Counted.{counted-same, counted-shut}

@@ -1,5 +1,4 @@
 -- What follows from the definitions of fairness, from the laws of sums up to existence, uniqueness and entitlement.
-pub mod Search
 pub mod Sums
 pub mod Settled
 pub mod Unique
@@ -8,7 +7,7 @@ pub mod Divisors
 pub mod LeastBase
 pub mod ProductBound
 pub mod Round
-pub mod Lists
+pub mod Some
 pub mod Lowest
 pub mod Counted
 pub mod Start

@@ -8,7 +8,7 @@ use native.Mathlib.Omega.{arith}
 use lib.Dec.{ltb}
 use borrow.Author.Tests.{ltb-true, ltb-false}
 use Rattle.fairness.specs.Filling.{Next, lower, lowest}
-use Rattle.fairness.proofs.Search.{below-suc}
+use Rattle.laws.proofs.Search.{below-suc}
 
 -- a's level is at most b's
 abbrev pub Below : Next → Next → Type 0

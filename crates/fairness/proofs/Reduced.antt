@@ -13,7 +13,7 @@ use Rattle.fairness.specs.Divisor.{divided, GcdOf}
 use Rattle.fairness.specs.Filling.{State, Event, nothing, fills, reaches, over, start, next, some, meets}
 use Rattle.fairness.specs.Filling.{stopMet, shut, free, happen, round, fill, work, filled}
 use Rattle.fairness.proofs.LeastBase.{divided-same, divided-le, least-unique, getD-divided}
-use Rattle.fairness.proofs.Lists.{length-list}
+use Rattle.laws.proofs.Lists.{length-list}
 
 module _ (P : Problem) (b g : ℕ) (xs : List ℕ) (common : GcdOf b xs g) where
   pub reduced-same : SameRates P (over b xs) (over (b / g) (divided g xs))

@@ -7,10 +7,11 @@ use native.Mathlib.Nat.{mul-le-mul-right, le-of-mul-le-mul-right, eq-of-mul-eq-m
 use native.Mathlib.Omega.{arith}
 use Rattle.fairness.specs.Problem.{Problem, Sound, across}
 use Rattle.fairness.specs.Fairness.{Fair, SettledAt}
-use Rattle.fairness.specs.Filling.{State, cells, ratesOf}
+use Rattle.laws.specs.Lists.{cells}
+use Rattle.fairness.specs.Filling.{State, ratesOf}
 use Rattle.fairness.specs.Round.{Closed, Rising, Waiting, Stopped, Stage, rises, waits, stopped, Underway, Reached, Shutting}
 use Rattle.fairness.specs.Round.{Moved, kept, met, shutOff, freed, Step}
-use Rattle.fairness.proofs.Search.{le-or-lt}
+use Rattle.laws.proofs.Search.{le-or-lt}
 use Rattle.fairness.proofs.Sums.{total-linear, total-equal}
 use Rattle.fairness.proofs.Settled.{fair-of-settled}
 

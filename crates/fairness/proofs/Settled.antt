@@ -9,7 +9,7 @@ use lib.Dec.{ltb}
 use borrow.Author.Tests.{ltb-true, lt-ltb, le-ltb}
 use Rattle.fairness.specs.Problem.{Problem, across}
 use Rattle.fairness.specs.Fairness.{Allocation, Feasible, Bounded, Allowed, AtMost, Better, Fair, Bottleneck, SettledAt, Settled}
-use Rattle.fairness.proofs.Search.{le-or-lt, eq-or-not, true-or-false, true-not-false, both-true, true-of-both, all-or-some}
+use Rattle.laws.proofs.Search.{le-or-lt, eq-or-not, true-or-false, true-not-false, both-true, true-of-both, all-or-some}
 use Rattle.fairness.proofs.Sums.{total-linear, total-le, total-one, one, one-self, one-other}
 
 -- Settled allocations are fair. Whoever gives f more must take it from f's bottleneck, where nobody else may lose.

@@ -11,10 +11,11 @@ use borrow.Author.Tests.{lt-ltb, ltb-true, ne-eqb}
 use Rattle.fairness.specs.Total.{on}
 use Rattle.fairness.specs.Product.{sum, product}
 use Rattle.fairness.specs.Problem.{Problem, Sound, across}
-use Rattle.fairness.specs.Filling.{cells, start}
+use Rattle.laws.specs.Lists.{cells}
+use Rattle.fairness.specs.Filling.{start}
 use Rattle.fairness.specs.Round.{Stage, rises, waits, stopped, Underway, Counted, live, afoot, isOpen, opens, busy, busyWeight, busyLimits}
 use Rattle.fairness.proofs.Sums.{total-le, on-one}
-use Rattle.fairness.proofs.Lists.{cells-list}
+use Rattle.laws.proofs.Lists.{cells-list}
 
 module _ (P : Problem) (sound : Sound P) where
   fixed-at-start : (c : ℕ) → c < P .flows → cells (start P .fixed) c ≡ P .minimum c

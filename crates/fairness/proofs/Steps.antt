@@ -9,11 +9,12 @@ use lib.Dec.{eqb, leb, ltb}
 use borrow.Author.Tests.{ltb-true, leb-true, leb-false, lt-ltb, eq-eqb, ne-eqb}
 use Rattle.fairness.specs.Total.{on}
 use Rattle.fairness.specs.Problem.{Problem, across}
-use Rattle.fairness.specs.Filling.{State, Next, cells, left, limitNext, meets, stopMet, shut, free, work}
+use Rattle.laws.specs.Lists.{cells}
+use Rattle.fairness.specs.Filling.{State, Next, left, limitNext, meets, stopMet, shut, free, work}
 use Rattle.fairness.specs.Round.{Stage, rises, waits, stopped, Underway, Shutting, Moved, kept, met, shutOff, freed, Step}
-use Rattle.fairness.proofs.Search.{eq-or-not, true-or-false, both-true}
+use Rattle.laws.proofs.Search.{eq-or-not, true-or-false, both-true}
 use Rattle.fairness.proofs.Sums.{total-linear, total-on, total-one, one, one-self, one-other}
-use Rattle.fairness.proofs.Lists.{cells-list}
+use Rattle.laws.proofs.Lists.{cells-list}
 
 -- what is to be done for one flow
 abbrev todo : State → ℕ → ℕ

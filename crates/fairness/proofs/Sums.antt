@@ -8,7 +8,7 @@ use native.Mathlib.Nat.{not-suc-le-zero, le-refl}
 use lib.Dec.{eqb}
 use borrow.Author.Tests.{eq-eqb, ne-eqb}
 use Rattle.fairness.specs.Total.{on, total}
-use Rattle.fairness.proofs.Search.{le-or-lt, eq-or-not}
+use Rattle.laws.proofs.Search.{le-or-lt, eq-or-not}
 
 on-linear : (b : Bool) (x k y j x' k' y' j' : ℕ) → (b ≡ true → x * k + y * j ≤ x' * k' + y' * j')
     → on b x * k + on b y * j ≤ on b x' * k' + on b y' * j'

@@ -8,7 +8,7 @@ use native.Mathlib.Nat.{min-eq-left, min-eq-right, min-comm, le-of-lt, le-antisy
 use native.Mathlib.Omega.{arith}
 use Rattle.fairness.specs.Problem.{Problem}
 use Rattle.fairness.specs.Fairness.{Allocation, Allowed, AtMost, Better, Fair, Bottleneck, SettledAt, SameRates}
-use Rattle.fairness.proofs.Search.{le-or-lt, eq-or-not, true-or-false, true-not-false, all-or-some, least-or-none}
+use Rattle.laws.proofs.Search.{le-or-lt, eq-or-not, true-or-false, true-not-false, all-or-some, least-or-none}
 use Rattle.fairness.proofs.Sums.{total-linear, total-le, total-one, one, one-self, one-other}
 use Rattle.fairness.proofs.Settled.{settled-of-fair}
 

@@ -2,25 +2,12 @@
 -- It is written to be run: a state holds lists, and every round makes new ones.
 use Prim.Native.Nat.{ℕ, zero, suc, _+_, _-_, _*_}
 use mathlib.Core.Bool.{Bool, true, false, not, cond, _&&_, _||_}
-use mathlib.Core.List.{List, [], _∷_}
+use mathlib.Core.List.{List}
 use lib.Dec.{eqb, leb, ltb}
-use lib.ListN.{getD}
+use Rattle.laws.specs.Lists.{cells, list}
 use Rattle.fairness.specs.Total.{on, total}
 use Rattle.fairness.specs.Problem.{Problem, across}
 use Rattle.fairness.specs.Fairness.{Allocation}
-
--- The numbers of a list, 0 past its end.
-abbrev pub cells : List ℕ → ℕ → ℕ
-cells xs i = getD xs i 0
-
--- The list of f i, f (i + 1), .., n of them.
-unfoldable pub listFrom : ℕ → ℕ → (ℕ → ℕ) → List ℕ
-listFrom zero i f = []
-listFrom (suc n) i f = f i ∷ listFrom n (suc i) f
-
--- The list of f 0 .. f (n - 1).
-unfoldable pub list : ℕ → (ℕ → ℕ) → List ℕ
-list n f = listFrom n 0 f
 
 -- How far the filling is: the base; the numerator of each flow that is not rising, and 0 for one that is; the weight
 -- of each rising flow, and 0 for the others; the weight of each flow that waits for the level to reach its minimum.

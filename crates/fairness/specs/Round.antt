@@ -10,7 +10,8 @@ use lib.ListN.{length}
 use Rattle.fairness.specs.Total.{on, total}
 use Rattle.fairness.specs.Product.{sum, product}
 use Rattle.fairness.specs.Problem.{Problem, across}
-use Rattle.fairness.specs.Filling.{State, cells}
+use Rattle.laws.specs.Lists.{cells}
+use Rattle.fairness.specs.Filling.{State}
 
 -- Limit l is done with, and is why c has stopped: nothing in it rises or waits, it is full, and every flow through it
 -- is at most c or stands at its minimum.

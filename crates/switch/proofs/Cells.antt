@@ -5,7 +5,7 @@ use mathlib.Core.Path.{_≡_, refl, _∙_, ap}
 use mathlib.Core.Bool.{Bool, true, false}
 use native.Mathlib.Omega.{arith}
 use borrow.Author.Tests.{lt-ltb, le-ltb, ltb-true, ltb-false}
-use Rattle.fairness.proofs.Search.{both-true}
+use Rattle.laws.proofs.Search.{both-true}
 use Rattle.switch.specs.Cells.{input, output, cellOf, inputOf, outputOf, inputUsed, outputUsed, used, usedCell}
 use Rattle.switch.specs.declared.port.Input.{Input}
 use Rattle.switch.specs.declared.port.Output.{Output}

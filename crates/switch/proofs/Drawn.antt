@@ -8,8 +8,9 @@ use lib.Dec.{eqb}
 use borrow.Author.Tests.{eqb-true}
 use Rattle.fairness.specs.Total.{total}
 use Rattle.fairness.specs.Divisor.{euclid, gcd, gcdOf}
-use Rattle.fairness.specs.Filling.{listFrom, list, start, lowest, next, some, stopMet, shut, free, happen, round, fill, work, filled}
-use Rattle.fairness.proofs.Search.{both-true}
+use Rattle.laws.specs.Lists.{listFrom, list}
+use Rattle.fairness.specs.Filling.{start, lowest, next, some, stopMet, shut, free, happen, round, fill, work, filled}
+use Rattle.laws.proofs.Search.{both-true}
 use Rattle.switch.specs.Rates.{sumTo}
 use Rattle.switch.specs.Reason.{every}
 use Rattle.switch.specs.Planned.{planFrom, planOfState, planOf}

@@ -7,7 +7,8 @@ use native.Mathlib.Omega.{arith}
 use borrow.Author.Tests.{eq-eqb}
 use Rattle.fairness.specs.Problem.{Sound}
 use Rattle.fairness.specs.Fairness as General
-use Rattle.fairness.specs.Filling.{cells, filled}
+use Rattle.laws.specs.Lists.{cells}
+use Rattle.fairness.specs.Filling.{filled}
 use Rattle.fairness.proofs.Sums.{total-le}
 use Rattle.fairness.proofs.Settled.{settled-of-fair, fair-of-settled}
 use Rattle.fairness.proofs.Unique.{same-of-fair}

@@ -8,7 +8,7 @@ use native.Mathlib.Omega.{arith}
 use lib.Dec.{eqb}
 use borrow.Author.Tests.{eq-eqb, ne-eqb}
 use Rattle.fairness.specs.Total.{on, total}
-use Rattle.fairness.proofs.Search.{eq-or-not}
+use Rattle.laws.proofs.Search.{eq-or-not}
 use Rattle.fairness.proofs.Sums.{total-equal, total-on, total-one, one, one-self}
 use Rattle.switch.specs.Rates.{sumTo}
 use Rattle.switch.specs.Planned.{passes}

@@ -13,5 +13,4 @@ pub mod Reason
 pub mod Planned
 pub mod Shown
 pub mod Drawn
-pub mod Determined
 pub mod Values

@@ -14,7 +14,7 @@ use Rattle.fairness.specs.Fairness as General
 use Rattle.fairness.specs.Filling.{over, filled}
 use Rattle.fairness.proofs.Divisors.{gcdOf-is}
 use Rattle.fairness.proofs.LeastBase.{divided-pos}
-use Rattle.fairness.proofs.Lists.{cells-list, length-list}
+use Rattle.laws.proofs.Lists.{cells-list, length-list}
 use Rattle.fairness.proofs.ProductBound.{ports-bound}
 use Rattle.fairness.proofs.Existence.{fair-filled, base-fits, busy-limits-at-most, busy-weight-at-most}
 use Rattle.fairness.proofs.Reduced.{reduced-same, reduced-least, length-filled}

@@ -7,7 +7,7 @@ use native.Mathlib.Nat.{not-suc-le-zero, ne-of-lt}
 use native.Mathlib.Omega.{arith}
 use lib.Dec.{eqb, leb, ltb}
 use borrow.Author.Tests.{eq-eqb, ne-eqb, eqb-true, lt-ltb, ltb-true, le-leb, leb-true}
-use Rattle.fairness.proofs.Search.{true-or-false, true-not-false, both-true, true-of-both, below-suc}
+use Rattle.laws.proofs.Search.{true-or-false, true-not-false, both-true, true-of-both, below-suc}
 use Rattle.switch.specs.Cells.{output, cellOf, inputCapacity, demandOf}
 use Rattle.switch.specs.Within.{Within}
 use Rattle.switch.specs.Rates.{Rates, flow, inputTotal}

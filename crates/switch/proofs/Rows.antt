@@ -8,7 +8,7 @@ use mathlib.Core.Bool.{false}
 use native.Mathlib.Nat.{add-sub-cancel-left, le-dest}
 use native.Mathlib.Omega.{arith}
 use borrow.Author.Tests.{lt-ltb, le-ltb}
-use Rattle.fairness.proofs.Search.{le-or-lt}
+use Rattle.laws.proofs.Search.{le-or-lt}
 use Rattle.switch.specs.Given.{Silent, AllSilent, First, Applies, Gives}
 use Rattle.switch.specs.Numbering.{numberOf}
 use Rattle.switch.specs.Rows.{Row, joined, at, nothing, firstOf, refusal, verdictAt, rowVerdict, orElse, verdictOf}

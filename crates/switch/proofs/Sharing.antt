@@ -8,7 +8,7 @@ use native.Mathlib.Omega.{arith}
 use borrow.Author.Tests.{eq-eqb, eqb-true, lt-ltb, le-ltb}
 use Rattle.fairness.specs.Problem.{across}
 use Rattle.fairness.specs.Fairness as General
-use Rattle.fairness.proofs.Search.{le-or-lt, true-or-false}
+use Rattle.laws.proofs.Search.{le-or-lt, true-or-false}
 use Rattle.switch.specs.Cells.{input, output, cellOf, inputOf, outputOf, inputLimit, outputLimit, used}
 use Rattle.switch.specs.Cells.{inputCapacity, outputCapacity, demandOf}
 use Rattle.switch.specs.Within.{Within}

@@ -7,7 +7,7 @@ use mathlib.Core.List.{List·Memᴰ·head, List·Memᴰ·tail}
 use native.Mathlib.Omega.{arith}
 use lib.Dec.{leb, ltb}
 use borrow.Author.Tests.{lt-ltb, le-ltb, le-leb, ltb-true, ltb-false, leb-true, not-true, not-false}
-use Rattle.fairness.proofs.Search.{le-or-lt, both-true}
+use Rattle.laws.proofs.Search.{le-or-lt, both-true}
 use Rattle.switch.specs.Cells.{input, output, cellOf, inputOf, outputOf, inputUsed, outputUsed, used, usedCell}
 use Rattle.switch.specs.Cells.{inputCapacity, outputCapacity, demandOf}
 use Rattle.switch.specs.Given.{Silent, AllSilent}

@@ -6,7 +6,8 @@ use mathlib.Core.List.{List}
 use lib.Dec.{eqb, ltb}
 use lib.ListN.{length, getD}
 use Rattle.fairness.specs.Problem.{Problem}
-use Rattle.fairness.specs.Filling.{State, list, filled}
+use Rattle.laws.specs.Lists.{list}
+use Rattle.fairness.specs.Filling.{State, filled}
 use Rattle.fairness.specs.Divisor.{gcdOf, divided}
 use Rattle.switch.specs.Cells.{input, output, inputOf, outputOf, inputLimit, outputLimit, inputCapacity, outputCapacity, demandOf}
 use Rattle.switch.specs.Rates.{ratesOf}

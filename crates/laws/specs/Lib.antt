@@ -1,0 +1,2 @@
+-- Definitions that every crate may use.
+pub mod Lists
