@@ -29,6 +29,21 @@ pub or-else-accepted : (v : Verdict) → orElse v Accepted ≡ v
 or-else-accepted Accepted = refl
 or-else-accepted (Refused x) = refl
 
+pub or-else-assoc : (a b c : Verdict) → orElse (orElse a b) c ≡ orElse a (orElse b c)
+or-else-assoc Accepted b c = refl
+or-else-assoc (Refused x) b c = refl
+
+pub accepts-both : (a b : Verdict) → orElse a b ≡ Accepted → (a ≡ Accepted) × (b ≡ Accepted)
+accepts-both Accepted b e = (refl, e)
+accepts-both (Refused x) b e = let z : _≡_ {A = ℕ} 0 1 = cc in absurd (omega arith)
+
+-- Of two lists of rows the first is heard, and the second only if the first accepts.
+pub verdict-append : (a b : List Row) → verdictOf (a ++ b) ≡ orElse (verdictOf a) (verdictOf b)
+unfolding verdictOf
+verdict-append [] b = refl
+verdict-append (row ∷ a) b =
+    ap (orElse (rowVerdict row)) (verdict-append a b) ∙ sym (or-else-assoc (rowVerdict row) (verdictOf a) (verdictOf b))
+
 -- The first row decides, or leaves it to the rest.
 pub verdict-at : (row : Row) (rest : List Row) (i : ℕ) → firstOf row ≡ at i → verdictOf (row ∷ rest) ≡ refusal (row .cause) (row .place i)
 unfolding verdictOf rowVerdict
@@ -47,6 +62,12 @@ silent-cons {row} {rows} s all x m = go (List·Memᴰ·cases-cons m)
     go : (x ≡ row) ⊎ List·Memᴰ x rows → Silent x
     go (inl e) = subst Silent (sym e) s
     go (inr l) = all x l
+
+pub silent-here : {row : Row} {rows : List Row} → AllSilent (row ∷ rows) → Silent row
+silent-here {row} all = all row (List·Memᴰ·head refl)
+
+pub silent-after : {row : Row} {rows : List Row} → AllSilent (row ∷ rows) → AllSilent rows
+silent-after all x m = all x (List·Memᴰ·tail m)
 
 -- A row in two parts of one cause says what the first part says, or else the second.
 module _ (a b : Row) where
@@ -112,6 +133,20 @@ module _ (a b : Row) where
           )
       go (inl s) (inl t) =
           rw (nothing-of-silent (joined a b) (silent-joined s t), nothing-of-silent a s, nothing-of-silent b t)
+
+  -- If it is the last row, the second part is heard after everything else.
+  pub verdict-joined : (before : List Row) → a .cause ≡ b .cause
+      → verdictOf (before ++ (joined a b ∷ [])) ≡ orElse (verdictOf (before ++ (a ∷ []))) (rowVerdict b)
+  unfolding verdictOf
+  verdict-joined before same =
+      rw (
+        verdict-append before (joined a b ∷ []),
+        verdict-append before (a ∷ []),
+        or-else-accepted (rowVerdict (joined a b)),
+        or-else-accepted (rowVerdict a),
+        joined-verdict same,
+        or-else-assoc (verdictOf before) (rowVerdict a) (rowVerdict b),
+      )
 
 -- Silent rows leave it to what follows them.
 verdict-past-all : (before rest : List Row) → AllSilent before → verdictOf (before ++ rest) ≡ verdictOf rest

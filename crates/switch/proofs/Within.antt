@@ -56,7 +56,7 @@ module _ (r : Request) (all : AllSilent (requestRows r)) where
   outputs : (1 ≤ r .n) × (r .n ≤ 8)
   outputs = inside-of-not-outside (r .n) (ports 1 (omega arith))
 
-  within-of-silent : Within r
+  pub within-of-silent : Within r
   within-of-silent =
       record {
         inputs = inputs;
@@ -128,7 +128,7 @@ module _ (r : Request) (w : Within r) where
       (λ e. omega (arith, w .unused-output (output i) (ltb-false i (r .n) (not-true (ltb i (r .n)) e)) h)))
       cells-silent)
 
-  silent-of-within : AllSilent (requestRows r)
+  pub silent-of-within : AllSilent (requestRows r)
   silent-of-within =
       silent-cons ports-silent (silent-cons capacities-silent (silent-cons demands-silent (silent-cons zeros-silent silent-nil)))
 

@@ -2,6 +2,7 @@
 use Prim.Native.Nat.{_≤_, _<_}
 use mathlib.Core.Logic.{_⊎_}
 use mathlib.Core.Path.{_≡_}
+use lib.ListN.{length}
 use Rattle.switch.specs.Cells.{cellOf, inputCapacity, outputCapacity, demandOf}
 use Rattle.switch.specs.declared.port.Input.{Input}
 use Rattle.switch.specs.declared.port.Output.{Output}
@@ -20,3 +21,9 @@ pub record Within (r : Request) : Type 0 where
   pub unused-input : (u : Input) → r .m ≤ u .0 → u .0 < 8 → inputCapacity r u ≡ 0
   pub unused-output : (v : Output) → r .n ≤ v .0 → v .0 < 8 → outputCapacity r v ≡ 0
   pub unused-cell : (u : Input) (v : Output) → u .0 < 8 → v .0 < 8 → (r .m ≤ u .0) ⊎ (r .n ≤ v .0) → demandOf r (cellOf u v) ≡ 0
+
+-- What the type of a request says of its tables. A list in the logic could be shorter or longer.
+pub record Shaped (r : Request) : Type 0 where
+  pub inputs : length (r .inputs) ≡ 8
+  pub outputs : length (r .outputs) ≡ 8
+  pub demands : length (r .demands) ≡ 64

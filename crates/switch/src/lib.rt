@@ -1,6 +1,6 @@
 // What a switch is: its ports and cells, requests and plans, refusals and verdicts, and the check of a request's numbers.
 pub mod check;
-mod entry;
+pub mod entry;
 pub mod plan;
 pub mod port;
 pub mod request;

@@ -1,0 +1,3 @@
+// Blocks of 512 bytes: 128 words of 32 bits, of which the last is a check of the others.
+pub mod check;
+pub mod word;

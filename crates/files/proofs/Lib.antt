@@ -1,0 +1,5 @@
+-- What follows from the definitions of files.
+pub mod Content
+pub mod Sound
+pub mod RequestFile
+pub mod Saving

@@ -1,0 +1,67 @@
+-- `read_request` meets its contract: the rows answer for themselves, in the order of the table.
+use mathlib.Core.Path.{_≡_, refl, sym, _∙_, ap, ap₂}
+use mathlib.Core.List.{List, [], _∷_}
+use Prim.Native.Nat.{ℕ}
+use borrow.Author.Needs.{needs}
+use denote.Ref.{now}
+use Rattle.switch.specs.RequestRows.{portsRow, capacityRow, demandRow, notZeroRow, requestVerdict}
+use Rattle.switch.specs.Rows.{rowVerdict, orElse, verdictOf}
+use Rattle.switch.specs.Values.{zeroRequest}
+use Rattle.switch.specs.declared.request.Request.{Request}
+use Rattle.switch.specs.declared.verdict.Verdict.{Verdict}
+use Rattle.switch.proofs.Rows.{verdict-joined}
+use Rattle.files.specs.FileRows.{lengthRow, checkRow, kindRow, spareRow, ifAccepted}
+use Rattle.files.specs.RequestFile.{requestIn, readVerdict}
+use Rattle.files.proofs.request.read_request.Statement.{statement}
+use Rattle.files.proofs.request.read_request.Tie as tie
+
+-- Row 7 goes on from the request's words to the spare ones, so these may be heard last.
+in-order : (file : List ℕ)
+    → orElse (rowVerdict (lengthRow 512 file)) (orElse (rowVerdict (checkRow 1 file)) (orElse (rowVerdict (kindRow 1 file))
+    (orElse (requestVerdict (requestIn file)) (rowVerdict (spareRow 0 83 44 file))))) ≡ readVerdict file
+unfolding verdictOf
+in-order file =
+    let r = requestIn file in
+    ap (λ (v : Verdict). orElse (rowVerdict (lengthRow 512 file)) (orElse (rowVerdict (checkRow 1 file)) (orElse (rowVerdict (kindRow 1 file)) v)))
+    (sym (verdict-joined (notZeroRow r) (spareRow 0 83 44 file) (portsRow r ∷ capacityRow r ∷ demandRow r ∷ []) refl))
+
+verdict : (c : tie.After-or-else4)
+    → c .or-else4 .result ≡ readVerdict (now (c .before .before .before .before .before .before .before .before .before .before .before .args .file))
+verdict c =
+    let kinds = c .before .before .before .before in
+    let numbers = kinds .before .before in
+    c .or-else4 .ensures
+    ∙ ap₂ orElse (c .before .length-row .ensures)
+    (c .before .before .or-else3 .ensures
+    ∙ ap₂ orElse (kinds .before .check-row .ensures)
+    (c .before .before .before .or-else2 .ensures
+    ∙ ap₂ orElse (kinds .kind-row .ensures)
+    (numbers .or-else .ensures
+    ∙ ap₂ orElse (numbers .before .before .check .ensures ∙ ap requestVerdict (numbers .before .before .before .request-in .ensures))
+    (numbers .before .spare-row .ensures))))
+    ∙ in-order (now (c .before .before .before .before .before .before .before .before .before .before .before .args .file))
+
+returns : tie.Need-returns
+returns c =
+    let read = c .before .before .before .before .before .before .before .before .before .before in
+    let request =
+    c .kept .ensures
+    ∙ ap₂ (λ (v : Verdict) (r : Request). ifAccepted v r zeroRequest) (verdict (c .before)) (read .request-in .ensures) in
+    λ i. record { verdict = verdict (c .before) i; request = request i }
+
+pub read-request-spec : {M : Type 1} → statement M
+read-request-spec =
+    tie.close
+    (tie.spec
+    (λ c κs. search needs)
+    (λ c κs. search needs)
+    (λ c κs. search needs)
+    (λ c κs. search needs)
+    (λ c κs. search needs)
+    (λ c κs. search needs)
+    (λ c κs. search needs)
+    (λ c κs. search needs)
+    (λ c κs. search needs)
+    (λ c κs. search needs)
+    (λ c κs. search needs)
+    returns)

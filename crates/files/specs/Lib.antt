@@ -1,0 +1,3 @@
+-- What files hold, and when they are refused.
+pub mod FileRows
+pub mod RequestFile

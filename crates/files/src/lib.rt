@@ -1,0 +1,3 @@
+// Files made of blocks: reading and writing them, and refusing what breaks the rules.
+pub mod request;
+mod rows;
