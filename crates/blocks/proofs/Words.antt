@@ -10,7 +10,7 @@ use native.Mathlib.Omega.{arith}
 use lib.ListN.{length, getD, set, take, drop, length-append, length-drop, take-append-drop}
 use lib.Seq.{length-take-le, take-suc, take-append-seam, drop-append-add, getD-append-seam, getD-append-add}
 use lib.Seq.{getD-set-other, sets, length-sets, sets-eq, drop-drop}
-use borrow.Author.Tests.{lt-ltb}
+use borrow.Author.Tests.{lt-ltb, le-ltb}
 use Rattle.laws.proofs.Search.{le-or-lt}
 use Rattle.blocks.specs.Words.{Bytes, wordOf, bytesOf, whole, wordAt, withWord, laid}
 
@@ -46,6 +46,15 @@ bytes-of w (suc (suc (suc (suc i)))) = omega arith
 either : {A : Type 0} (P : A → Type 0) (b : Bool) {x y : A} → P x → P y → P (cond b x y)
 either P true p q = p
 either P false p q = q
+
+-- Past the last word there is 0 to read, and nothing to replace.
+pub word-past : (file : List ℕ) (i : ℕ) → length file / 4 ≤ i → wordAt file i ≡ 0
+unfolding wordAt
+word-past file i h = simp (le-ltb i (length file / 4) h)
+
+pub with-word-past : (file : List ℕ) (i w : ℕ) → length file / 4 ≤ i → withWord file i w ≡ file
+unfolding withWord
+with-word-past file i w h = simp (le-ltb i (length file / 4) h)
 
 pub word-below : (file : List ℕ) → Bytes file → (i : ℕ) → wordAt file i < 4_294_967_296
 unfolding wordAt

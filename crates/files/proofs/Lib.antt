@@ -3,3 +3,4 @@ pub mod Content
 pub mod Sound
 pub mod RequestFile
 pub mod Saving
+pub mod Shown

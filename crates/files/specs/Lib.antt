@@ -1,3 +1,4 @@
 -- What files hold, and when they are refused.
 pub mod FileRows
 pub mod RequestFile
+pub mod Shown

@@ -71,9 +71,11 @@ pub fn read_request(file: &[u8]) -> RequestRead
     ensures { λ r. ⌜ r ≡ requestRead (now (file .entry)) ⌝ }
 {
     let request = request_in(file);
+    let length = length_row(file, 512);
+    let checks = check_row(file, 1);
+    let kinds = kind_row(file, 1);
     let numbers = check(request).or_else(spare_row(file, 0, 83, 44));
-    let block = check_row(file, 1).or_else(kind_row(file, 1).or_else(numbers));
-    let verdict = length_row(file, 512).or_else(block);
+    let verdict = length.or_else(checks.or_else(kinds.or_else(numbers)));
     RequestRead {
         verdict,
         request: kept(verdict, request),

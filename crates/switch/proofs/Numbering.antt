@@ -3,7 +3,10 @@ use Prim.Native.Nat.{ℕ, _-_}
 use mathlib.Core.Path.{_≡_, refl, sym, _∙_, ap}
 use mathlib.Core.List.{List, [], _∷_, map}
 use lib.ListN.{getD}
+use Rattle.switch.specs.Given.{numbersOf}
 use Rattle.switch.specs.Numbering.{numberOf}
+use Rattle.switch.specs.RequestRows.{requestRows}
+use Rattle.switch.specs.declared.request.Request.{Request}
 use Rattle.switch.specs.declared.verdict.Cause.{Cause}
 
 -- The rows of the table, from its first to its last.
@@ -43,3 +46,7 @@ rowAt-numberOf Cause.Room = refl
 
 pub number-injective : (a b : Cause) → numberOf a ≡ numberOf b → a ≡ b
 number-injective a b e = sym (rowAt-numberOf a) ∙ ap rowAt e ∙ rowAt-numberOf b
+
+-- The rows of a request are heard in the table's order.
+pub request-rows-in-order : (r : Request) → numbersOf (requestRows r) ≡ 4 ∷ 5 ∷ 6 ∷ 7 ∷ []
+request-rows-in-order r = refl

@@ -3,11 +3,15 @@
 use Prim.Native.Nat.{ℕ, _<_}
 use mathlib.Core.Path.{_≡_}
 use mathlib.Core.Bool.{true, false}
-use mathlib.Core.List.{List, _∷_, _++_, List·Memᴰ}
+use mathlib.Core.List.{List, _∷_, _++_, map, List·Memᴰ}
 use Rattle.switch.specs.Numbering.{numberOf}
 use Rattle.switch.specs.Rows.{Row}
 use Rattle.switch.specs.declared.verdict.Verdict.{Verdict}
 use Rattle.switch.specs.declared.verdict.Verdict.the-variants.{Accepted, Refused}
+
+-- The numbers of these rows, in the order in which they are heard.
+abbrev pub numbersOf : List Row → List ℕ
+numbersOf = map (λ (row : Row). numberOf (row .cause))
 
 -- The row applies nowhere: no candidate of it offends.
 abbrev pub Silent : Row → Type 0

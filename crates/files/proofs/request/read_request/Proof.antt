@@ -28,26 +28,25 @@ in-order file =
 verdict : (c : tie.After-or-else4)
     → c .or-else4 .result ≡ readVerdict (now (c .before .before .before .before .before .before .before .before .before .before .before .args .file))
 verdict c =
-    let kinds = c .before .before .before .before in
-    let numbers = kinds .before .before in
+    let spare = c .before .before .before .before in
+    let kinds = spare .before .before in
+    let lengths = kinds .before .before in
     c .or-else4 .ensures
-    ∙ ap₂ orElse (c .before .length-row .ensures)
-    (c .before .before .or-else3 .ensures
+    ∙ ap₂ orElse (lengths .length-row .ensures)
+    (c .before .or-else3 .ensures
     ∙ ap₂ orElse (kinds .before .check-row .ensures)
-    (c .before .before .before .or-else2 .ensures
+    (c .before .before .or-else2 .ensures
     ∙ ap₂ orElse (kinds .kind-row .ensures)
-    (numbers .or-else .ensures
-    ∙ ap₂ orElse (numbers .before .before .check .ensures ∙ ap requestVerdict (numbers .before .before .before .request-in .ensures))
-    (numbers .before .spare-row .ensures))))
-    ∙ in-order (now (c .before .before .before .before .before .before .before .before .before .before .before .args .file))
+    (c .before .before .before .or-else .ensures
+    ∙ ap₂ orElse (spare .before .check .ensures ∙ ap requestVerdict (lengths .before .request-in .ensures))
+    (spare .spare-row .ensures))))
+    ∙ in-order (now (lengths .before .before .before .args .file))
 
 returns : tie.Need-returns
 returns c =
     let read = c .before .before .before .before .before .before .before .before .before .before in
-    let request =
-    c .kept .ensures
-    ∙ ap₂ (λ (v : Verdict) (r : Request). ifAccepted v r zeroRequest) (verdict (c .before)) (read .request-in .ensures) in
-    λ i. record { verdict = verdict (c .before) i; request = request i }
+    let kept = ap₂ (λ (v : Verdict) (r : Request). ifAccepted v r zeroRequest) (verdict (c .before)) (read .request-in .ensures) in
+    λ i. record { verdict = verdict (c .before) i; request = (c .kept .ensures ∙ kept) i }
 
 pub read-request-spec : {M : Type 1} → statement M
 read-request-spec =

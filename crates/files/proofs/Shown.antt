@@ -1,0 +1,43 @@
+-- Everything that is to be shown of request files.
+use mathlib.Core.Path.{refl, sym, subst, _∙_, ap}
+use mathlib.Core.List.{List, [], append-nil}
+use Prim.Native.Nat.{ℕ}
+use Rattle.blocks.specs.Words.{wordAt}
+use Rattle.switch.specs.Within.{Within, Shaped}
+use Rattle.switch.specs.declared.request.Request.{Request}
+use Rattle.switch.proofs.Rows.{given-exactly}
+use Rattle.files.specs.RequestFile.{Holds, requestFile, requestFileRows, requestRead, writeRows}
+use Rattle.files.specs.Shown.{SavedAndRead, Refusals}
+use Rattle.files.specs.declared.request.RequestRead.{RequestRead}
+use Rattle.files.proofs.RequestFile.{read-accepted, read-accepts-written, read-back, damage-refused, accepts-exactly-written, refused-read-is-zero}
+use Rattle.files.proofs.Saving.{saved-and-read, read-and-saved, write-accepts, room-of-accepted, refused-write-keeps, write-keeps-rest}
+use Rattle.files.proofs.Sound.{holds-of-file}
+
+pub saved-and-read-shown : SavedAndRead
+saved-and-read-shown =
+    record {
+      saved-and-read = saved-and-read;
+      accepted-exactly = accepts-exactly-written;
+      read-and-saved = read-and-saved;
+      words-written = λ r w t.
+          subst (Holds (wordAt (requestFile r)))
+          (sym (ap (λ (x : RequestRead). x .request) (read-accepted (requestFile r) (read-accepts-written r w t)))
+          ∙ ap (λ (x : RequestRead). x .request) (read-back r w t))
+          (holds-of-file (requestFile r) (read-accepts-written r w t));
+      words-read = λ file e.
+          subst (Holds (wordAt file)) (sym (ap (λ (x : RequestRead). x .request) (read-accepted file e))) (holds-of-file file e);
+      damage-refused = damage-refused;
+    }
+
+pub refusals-shown : Refusals
+refusals-shown =
+    record {
+      read-gives = λ file. given-exactly (requestFileRows file);
+      write-gives = λ r buffer. given-exactly (writeRows r buffer);
+      read-order = λ file. refl;
+      write-order = λ r buffer. refl;
+      write-accepts = λ r buffer. (room-of-accepted r buffer, λ (w, room). write-accepts r buffer w room);
+      refused-read = refused-read-is-zero;
+      refused-write = refused-write-keeps;
+      rest-kept = write-keeps-rest;
+    }

@@ -1,0 +1,59 @@
+-- What is shown of request files, in one place: with `RequestFile`, the file to read. The first demand asks for what it
+-- says of refusals, and the second for saving and reading.
+use Prim.Native.Nat.{ℕ, _≤_, _<_}
+use mathlib.Core.Logic.{_↔_}
+use mathlib.Core.Path.{_≡_}
+use mathlib.Core.List.{List, [], _∷_, _++_}
+use lib.ListN.{length, take, drop}
+use Rattle.blocks.specs.Words.{Bytes, wordAt, withWord}
+use Rattle.switch.specs.Given.{Applies, Gives, numbersOf}
+use Rattle.switch.specs.Numbering.{numberOf}
+use Rattle.switch.specs.Rows.{Row, refusal}
+use Rattle.switch.specs.Values.{zeroRequest}
+use Rattle.switch.specs.Within.{Within, Shaped}
+use Rattle.switch.specs.declared.request.Request.{Request}
+use Rattle.switch.specs.declared.verdict.Cause.the-variants.{Check}
+use Rattle.switch.specs.declared.verdict.Refusal.{Refusal}
+use Rattle.switch.specs.declared.verdict.Verdict.the-variants.{Accepted, Refused}
+use Rattle.files.specs.RequestFile.{Holds, requestFile, requestIn, requestFileRows, readVerdict, requestRead}
+use Rattle.files.specs.RequestFile.{writeRows, writeVerdict, written}
+
+-- Saving and reading, for every request, every buffer and every row of bytes.
+pub record SavedAndRead : Type 0 where
+  -- a request within the limits is written wherever there is room, and read back as it was
+  pub saved-and-read : (r : Request) (buffer : List ℕ) → Within r → Shaped r → 512 ≤ length buffer
+      → (writeVerdict r buffer ≡ Accepted)
+      × (requestRead (take 512 (written r buffer)) ≡ record { verdict = Accepted; request = r })
+  -- reading accepts the files that writing makes, and no others
+  pub accepted-exactly : (file : List ℕ) → Bytes file
+      → (readVerdict file ≡ Accepted) ↔ ((r : Request) × Within r × Shaped r × (file ≡ requestFile r))
+  -- and what was read is written as it was
+  pub read-and-saved : (file buffer : List ℕ) → Bytes file → readVerdict file ≡ Accepted → 512 ≤ length buffer
+      → written (requestRead file .request) buffer ≡ file ++ drop 512 buffer
+  -- the words of a file that is written, and of one that is read, stand where document 01 puts them
+  pub words-written : (r : Request) → Within r → Shaped r → Holds (wordAt (requestFile r)) r
+  pub words-read : (file : List ℕ) → readVerdict file ≡ Accepted → Holds (wordAt file) (requestRead file .request)
+  -- a file of which one word was changed is refused for its check
+  pub damage-refused : (file : List ℕ) → Bytes file → readVerdict file ≡ Accepted
+      → (k w : ℕ) → k < 128 → w < 4_294_967_296 → (w ≡ wordAt file k → ⊥)
+      → readVerdict (withWord file k w) ≡ refusal Check 127
+
+-- Refusals: which number, which place, and what is left as it was.
+pub record Refusals : Type 0 where
+  -- reading gives number k at place p exactly when a row of that number applies there and no row before it applies
+  pub read-gives : (file : List ℕ) (k p : ℕ)
+      → Gives (readVerdict file) k p ↔ ((row : Row) × Applies (requestFileRows file) row p × (numberOf (row .cause) ≡ k))
+  -- and so does writing
+  pub write-gives : (r : Request) (buffer : List ℕ) (k p : ℕ)
+      → Gives (writeVerdict r buffer) k p ↔ ((row : Row) × Applies (writeRows r buffer) row p × (numberOf (row .cause) ≡ k))
+  -- the rows are the table's, in its order
+  pub read-order : (file : List ℕ) → numbersOf (requestFileRows file) ≡ 1 ∷ 2 ∷ 3 ∷ 4 ∷ 5 ∷ 6 ∷ 7 ∷ []
+  pub write-order : (r : Request) (buffer : List ℕ) → numbersOf (writeRows r buffer) ≡ 4 ∷ 5 ∷ 6 ∷ 7 ∷ 16 ∷ []
+  -- writing refuses nothing else than what is outside the limits or has no room
+  pub write-accepts : (r : Request) (buffer : List ℕ) → (writeVerdict r buffer ≡ Accepted) ↔ (Within r × (512 ≤ length buffer))
+  -- a refused reading hands back zeros, and a refused writing leaves the buffer
+  pub refused-read : (file : List ℕ) (x : Refusal) → readVerdict file ≡ Refused x → requestRead file .request ≡ zeroRequest
+  pub refused-write : (r : Request) (buffer : List ℕ) (x : Refusal) → writeVerdict r buffer ≡ Refused x → written r buffer ≡ buffer
+  -- whatever the verdict, the bytes after the file are kept
+  pub rest-kept : (r : Request) (buffer : List ℕ)
+      → (length (written r buffer) ≡ length buffer) × (drop 512 (written r buffer) ≡ drop 512 buffer)
