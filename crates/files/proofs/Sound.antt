@@ -2,7 +2,7 @@
 use Prim.Native.Nat.{ℕ, zero, suc, _+_, _≤_, _<_}
 use mathlib.Core.Path.{_≡_, refl, sym, ap}
 use mathlib.Core.Bool.{true, false, not}
-use mathlib.Core.List.{List}
+use mathlib.Core.List.{List, [], _∷_}
 use native.Mathlib.Nat.{zero-add, add-assoc, le-dest}
 use native.Mathlib.Omega.{arith}
 use lib.ListN.{length}
@@ -66,7 +66,7 @@ module _ (file : List ℕ) where
       let zeros = silent-after demands in
       silent-cons (λ i h. ap not (eq-eqb (length file) 512 (s .size)))
       (silent-cons (one-candidate (λ i. checkRow 1 file .offends i ≡ false) (ap not (s .passes)))
-      (silent-cons (one-candidate (λ i. kindRow 1 file .offends i ≡ false) (ap not (eq-eqb (wordAt file 0) 1 (s .kind))))
+      (silent-cons (one-candidate (λ i. kindRow (1 ∷ []) file .offends i ≡ false) (ap not (eq-eqb (wordAt file 0) 1 (s .kind))))
       (silent-cons (silent-here ports) (silent-cons (silent-here capacities) (silent-cons (silent-here demands)
       (silent-cons (silent-joined (notZeroRow (requestIn file)) (spareRow 0 83 44 file) (silent-here zeros)
       (λ i h. rw (zero-add (83 + i), s .spare (83 + i) (omega arith) (omega arith)))) silent-nil))))))

@@ -4,7 +4,7 @@ use Prim.Native.Nat.{ℕ, _+_, _*_}
 use mathlib.Core.Bool.{not}
 use mathlib.Core.List.{List}
 use lib.Dec.{eqb, ltb}
-use lib.ListN.{length}
+use lib.ListN.{length, getD}
 use Rattle.blocks.specs.Check.{sealed, startOf, wordIn}
 use Rattle.switch.specs.Rows.{Row}
 use Rattle.switch.specs.declared.verdict.Cause.the-variants.{Length, Check, Kind, NotZero, Room}
@@ -25,11 +25,15 @@ checkRow blocks file =
       place = λ b. 128 * b + 127;
     }
 
--- Row 3: each block has to be of its kind, which its first word says. The request is of kind 1, and the blocks of a plan
--- that follow it are of kinds 2 and 3: the kind is the block's number plus 1.
-abbrev pub kindRow : ℕ → List ℕ → Row
-kindRow blocks file =
-    record { cause = Kind; size = blocks; offends = λ b. not (eqb (wordIn file b 0) (b + 1)); place = λ b. 128 * b }
+-- Row 3: each block has to be of its kind, which its first word says. A file is told by the kinds of its blocks.
+abbrev pub kindRow : List ℕ → List ℕ → Row
+kindRow kinds file =
+    record {
+      cause = Kind;
+      size = length kinds;
+      offends = λ b. not (eqb (wordIn file b 0) (getD kinds b 0));
+      place = λ b. 128 * b;
+    }
 
 -- Row 7, for the spare words of a block: `count` words from word `from` on have to be 0.
 abbrev pub spareRow : ℕ → ℕ → ℕ → List ℕ → Row

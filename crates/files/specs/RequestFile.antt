@@ -60,7 +60,7 @@ fileNotZeroRow file = joined (notZeroRow (requestIn file)) (spareRow 0 83 44 fil
 
 abbrev pub requestFileRows : List ℕ → List Row
 requestFileRows file =
-    lengthRow 512 file ∷ checkRow 1 file ∷ kindRow 1 file ∷ portsRow (requestIn file) ∷ capacityRow (requestIn file)
+    lengthRow 512 file ∷ checkRow 1 file ∷ kindRow (1 ∷ []) file ∷ portsRow (requestIn file) ∷ capacityRow (requestIn file)
     ∷ demandRow (requestIn file) ∷ fileNotZeroRow file ∷ []
 
 abbrev pub readVerdict : List ℕ → Verdict

@@ -73,7 +73,7 @@ pub fn read_request(file: &[u8]) -> RequestRead
     let request = request_in(file);
     let length = length_row(file, 512);
     let checks = check_row(file, 1);
-    let kinds = kind_row(file, 1);
+    let kinds = kind_row(file, &[1]);
     let numbers = check(request).or_else(spare_row(file, 0, 83, 44));
     let verdict = length.or_else(checks.or_else(kinds.or_else(numbers)));
     RequestRead {

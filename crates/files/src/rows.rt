@@ -1,5 +1,7 @@
 // The rows of the refusal table that speak of bytes: 1 to 3, the spare words of 7, and 16.
 ghost use mathlib.Core.Path.{_≡_};
+ghost use Prim.Native.Nat.{_<_};
+ghost use lib.ListN.{length};
 ghost use Rattle.switch.specs.Rows.{rowVerdict};
 ghost use Rattle.files.specs.FileRows.{lengthRow, checkRow, kindRow, spareRow, roomRow};
 use blocks::check::sealed;
@@ -39,13 +41,14 @@ pub fn check_row(file: &[u8], blocks: u32) -> Verdict
     Verdict::Accepted
 }
 
-// The kinds of the first `blocks` blocks.
-pub fn kind_row(file: &[u8], blocks: u32) -> Verdict
-    ensures { λ r. ⌜ r ≡ rowVerdict (kindRow blocks (now (file .entry))) ⌝ }
+// The kinds of the file's blocks.
+pub fn kind_row(file: &[u8], kinds: &[u32]) -> Verdict
+    requires { ⌜ length (now kinds) < 4_294_967_296 ⌝ }
+    ensures { λ r. ⌜ r ≡ rowVerdict (kindRow (now (kinds .entry)) (now (file .entry))) ⌝ }
 {
-    for b in 0..blocks {
+    for b in 0..kinds.len() {
         let place = 128 * b as u64;
-        if word(file, place) != b + 1 {
+        if word(file, place) != kinds[b] {
             return refused(Cause::Kind, place);
         }
     }
