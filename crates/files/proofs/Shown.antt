@@ -1,12 +1,8 @@
 -- Everything that is to be shown of request files.
 use mathlib.Core.Path.{refl, sym, subst, _∙_, ap}
-use mathlib.Core.List.{List, [], append-nil}
-use Prim.Native.Nat.{ℕ}
 use Rattle.blocks.specs.Words.{wordAt}
-use Rattle.switch.specs.Within.{Within, Shaped}
-use Rattle.switch.specs.declared.request.Request.{Request}
 use Rattle.switch.proofs.Rows.{given-exactly}
-use Rattle.files.specs.RequestFile.{Holds, requestFile, requestFileRows, requestRead, writeRows}
+use Rattle.files.specs.RequestFile.{Holds, requestFile, requestFileRows, writeRows}
 use Rattle.files.specs.Shown.{SavedAndRead, Refusals}
 use Rattle.files.specs.declared.request.RequestRead.{RequestRead}
 use Rattle.files.proofs.RequestFile.{read-accepted, read-accepts-written, read-back, damage-refused, accepts-exactly-written, refused-read-is-zero}
@@ -26,7 +22,8 @@ saved-and-read-shown =
           (holds-of-file (requestFile r) (read-accepts-written r w t));
       words-read = λ file e.
           subst (Holds (wordAt file)) (sym (ap (λ (x : RequestRead). x .request) (read-accepted file e))) (holds-of-file file e);
-      damage-refused = damage-refused;
+      damage-refused = λ file b e k w below small differs.
+          rw (damage-refused file b e k w below small differs) (refl, refl);
     }
 
 pub refusals-shown : Refusals

@@ -8,14 +8,13 @@ use lib.ListN.{length, take, drop}
 use Rattle.blocks.specs.Words.{Bytes, wordAt, withWord}
 use Rattle.switch.specs.Given.{Applies, Gives, numbersOf}
 use Rattle.switch.specs.Numbering.{numberOf}
-use Rattle.switch.specs.Rows.{Row, refusal}
+use Rattle.switch.specs.Rows.{Row}
 use Rattle.switch.specs.Values.{zeroRequest}
 use Rattle.switch.specs.Within.{Within, Shaped}
 use Rattle.switch.specs.declared.request.Request.{Request}
-use Rattle.switch.specs.declared.verdict.Cause.the-variants.{Check}
 use Rattle.switch.specs.declared.verdict.Refusal.{Refusal}
 use Rattle.switch.specs.declared.verdict.Verdict.the-variants.{Accepted, Refused}
-use Rattle.files.specs.RequestFile.{Holds, requestFile, requestIn, requestFileRows, readVerdict, requestRead}
+use Rattle.files.specs.RequestFile.{Holds, requestFile, requestFileRows, readVerdict, requestRead}
 use Rattle.files.specs.RequestFile.{writeRows, writeVerdict, written}
 
 -- Saving and reading, for every request, every buffer and every row of bytes.
@@ -33,10 +32,10 @@ pub record SavedAndRead : Type 0 where
   -- the words of a file that is written, and of one that is read, stand where document 01 puts them
   pub words-written : (r : Request) → Within r → Shaped r → Holds (wordAt (requestFile r)) r
   pub words-read : (file : List ℕ) → readVerdict file ≡ Accepted → Holds (wordAt file) (requestRead file .request)
-  -- a file of which one word was changed is refused for its check
+  -- a file of which one word was changed is refused 2 at word 127
   pub damage-refused : (file : List ℕ) → Bytes file → readVerdict file ≡ Accepted
       → (k w : ℕ) → k < 128 → w < 4_294_967_296 → (w ≡ wordAt file k → ⊥)
-      → readVerdict (withWord file k w) ≡ refusal Check 127
+      → Gives (readVerdict (withWord file k w)) 2 127
 
 -- Refusals: which number, which place, and what is left as it was.
 pub record Refusals : Type 0 where
