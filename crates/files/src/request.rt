@@ -67,6 +67,8 @@ fn kept(verdict: Verdict, request: Request) -> Request
     }
 }
 
+// Reads a request file: rows 1 to 7. Every row is asked of any bytes, since past their end there is 0 to read; the first
+// that refuses counts.
 pub fn read_request(file: &[u8]) -> RequestRead
     ensures { λ r. ⌜ r ≡ requestRead (now (file .entry)) ⌝ }
 {
@@ -114,6 +116,7 @@ fn write_block(m: u32, n: u32, inputs: &[u32], outputs: &[u32], demands: &[u32],
     seal(start_of(0), buffer, 0);
 }
 
+// Writes a request's file into the first 512 bytes: rows 4 to 7, then 16. Nothing is written before all of them accept.
 pub fn write_request(request: Request, buffer: &mut [u8]) -> Verdict
     ensures { λ r. ⌜ r ≡ writeVerdict request (now (buffer .entry)) ⌝ }
     ensures { λ _. ⌜ now (buffer .exit) ≡ written request (now (buffer .entry)) ⌝ }
