@@ -12,7 +12,7 @@ use borrow.Author.Tests.{eq-eqb, ne-eqb, eqb-true}
 use Rattle.laws.proofs.Search.{eq-or-not}
 use Rattle.blocks.specs.Words.{Bytes, bytesOf, wordAt, withWord, laid}
 use Rattle.blocks.specs.Check.{rotated, taken, running, check, sealed, startOf, wordIn, OneWord, sealedIn, blockOf}
-use Rattle.blocks.proofs.Words.{word-below, bytes-with-word, word-with-same, word-with-other, word-after}
+use Rattle.blocks.proofs.Words.{bytes-of, bytes-append, bytes-laid, word-below, bytes-with-word, word-with-same, word-with-other, word-after}
 use Rattle.blocks.proofs.Words.{with-word-after, length-laid, word-laid}
 
 -- The checks of the first three blocks of a file of zeros.
@@ -108,6 +108,9 @@ file-damage-seen start file block k w bytes below there fits ne =
 module _ (start : ℕ) (w : ℕ → ℕ) where
   pub length-block : length (blockOf start w) ≡ 512
   length-block = simp (length-append, length-laid)
+
+  pub block-bytes : Bytes (blockOf start w)
+  block-bytes = bytes-append (laid w 127) (bytesOf (check start w)) (bytes-laid w 127) (bytes-of (check start w))
 
   pub block-words : (rest : List ℕ) (i : ℕ) → i < 127 → w i < 4_294_967_296 → wordAt (blockOf start w ++ rest) i ≡ w i
   block-words rest i h small = rw append-assoc (word-laid w 127 (bytesOf (check start w) ++ rest) i h small)

@@ -35,7 +35,7 @@ bytes-of-word a b c d p q r s =
     let h : wordOf a b c d / 16_777_216 ≡ d = omega arith in
     rw (e, f, g, h) (simp (add-mul-mod-self-left, mod-eq-of-lt))
 
-bytes-of : (w : ℕ) → Bytes (bytesOf w)
+pub bytes-of : (w : ℕ) → Bytes (bytesOf w)
 bytes-of w zero = omega arith
 bytes-of w (suc zero) = omega arith
 bytes-of w (suc (suc zero)) = omega arith
@@ -140,7 +140,7 @@ unfolding laid
 length-laid w zero = refl
 length-laid w (suc k) = simp (length-append, length-laid w k) (omega arith)
 
-bytes-append : (l m : List ℕ) → Bytes l → Bytes m → Bytes (l ++ m)
+pub bytes-append : (l m : List ℕ) → Bytes l → Bytes m → Bytes (l ++ m)
 bytes-append [] m b c i = c i
 bytes-append (x ∷ xs) m b c zero = b zero
 bytes-append (x ∷ xs) m b c (suc i) = bytes-append xs m (λ k. b (suc k)) c i

@@ -1,8 +1,10 @@
 -- Everything that is to be shown of request files.
 use mathlib.Core.Path.{refl, sym, subst, _∙_, ap}
 use Rattle.blocks.specs.Words.{wordAt}
+use Rattle.blocks.specs.Check.{startOf}
+use Rattle.blocks.proofs.Sealed.{block-bytes}
 use Rattle.switch.proofs.Rows.{given-exactly}
-use Rattle.files.specs.RequestFile.{Holds, requestFile, requestFileRows, writeRows}
+use Rattle.files.specs.RequestFile.{Holds, requestWord, requestFile, requestFileRows, writeRows}
 use Rattle.files.specs.Shown.{SavedAndRead, Refusals}
 use Rattle.files.specs.declared.request.RequestRead.{RequestRead}
 use Rattle.files.proofs.RequestFile.{read-accepted, read-accepts-written, read-back, damage-refused, accepts-exactly-written, refused-read-is-zero}
@@ -15,6 +17,7 @@ saved-and-read-shown =
       saved-and-read = saved-and-read;
       accepted-exactly = accepts-exactly-written;
       read-and-saved = read-and-saved;
+      bytes-written = λ r. block-bytes (startOf 0) (requestWord r);
       words-written = λ r w t.
           subst (Holds (wordAt (requestFile r)))
           (sym (ap (λ (x : RequestRead). x .request) (read-accepted (requestFile r) (read-accepts-written r w t)))

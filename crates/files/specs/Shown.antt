@@ -29,6 +29,8 @@ pub record SavedAndRead : Type 0 where
   -- and what was read is written as it was
   pub read-and-saved : (file buffer : List ℕ) → Bytes file → readVerdict file ≡ Accepted → 512 ≤ length buffer
       → written (requestRead file .request) buffer ≡ file ++ drop 512 buffer
+  -- the file of a request is a row of bytes, so that what is said here of files is said of it too
+  pub bytes-written : (r : Request) → Bytes (requestFile r)
   -- the words of a file that is written, and of one that is read, stand where document 01 puts them
   pub words-written : (r : Request) → Within r → Shaped r → Holds (wordAt (requestFile r)) r
   pub words-read : (file : List ℕ) → readVerdict file ≡ Accepted → Holds (wordAt file) (requestRead file .request)
