@@ -3,4 +3,5 @@ pub mod Content
 pub mod Sound
 pub mod RequestFile
 pub mod Saving
+pub mod Fault
 pub mod Shown

@@ -13,6 +13,7 @@ use Rattle.files.specs.Shown.{SavedAndRead, Refusals}
 use Rattle.files.specs.declared.request.RequestRead.{RequestRead}
 use Rattle.files.proofs.RequestFile.{read-accepted, read-accepts-written, read-back, damage-refused, accepts-exactly-written, refused-read-is-zero}
 use Rattle.files.proofs.Saving.{saved-and-read, read-and-saved, write-accepts, room-of-accepted, refused-write-keeps, write-keeps-rest}
+use Rattle.files.proofs.Fault.{read-fault, write-fault}
 use Rattle.files.proofs.Sound.{holds-of-file}
 
 read-rows-in-order : (file : List ℕ) → numbersOf (requestFileRows file) ≡ 1 ∷ 2 ∷ 3 ∷ 4 ∷ 5 ∷ 6 ∷ 7 ∷ []
@@ -44,6 +45,8 @@ refusals-shown =
     record {
       read-gives = λ file. given-exactly (requestFileRows file);
       write-gives = λ r buffer. given-exactly (writeRows r buffer);
+      read-fault = read-fault;
+      write-fault = write-fault;
       read-order = read-rows-in-order;
       write-order = write-rows-in-order;
       write-accepts = λ r buffer. (room-of-accepted r buffer, λ (w, room). write-accepts r buffer w room);

@@ -31,7 +31,7 @@ pub record Sound (file : List ℕ) : Type 0 where
   pub spare : (i : ℕ) → 83 ≤ i → i ≤ 126 → wordAt file i ≡ 0
 
 -- A row of one candidate is asked of candidate 0 only.
-one-candidate : (Q : ℕ → Type 0) → Q 0 → (i : ℕ) → i < 1 → Q i
+pub one-candidate : (Q : ℕ → Type 0) → Q 0 → (i : ℕ) → i < 1 → Q i
 one-candidate Q here zero h = here
 one-candidate Q here (suc i) h = absurd (omega arith)
 

@@ -14,6 +14,7 @@ use Rattle.switch.specs.Within.{Within, Shaped}
 use Rattle.switch.specs.declared.request.Request.{Request}
 use Rattle.switch.specs.declared.verdict.Refusal.{Refusal}
 use Rattle.switch.specs.declared.verdict.Verdict.the-variants.{Accepted, Refused}
+use Rattle.files.specs.Fault.{FileFault, WriteFault}
 use Rattle.files.specs.RequestFile.{Holds, requestFile, requestFileRows, readVerdict, requestRead}
 use Rattle.files.specs.RequestFile.{writeRows, writeVerdict, written}
 
@@ -47,6 +48,9 @@ pub record Refusals : Type 0 where
   -- and so does writing
   pub write-gives : (r : Request) (buffer : List ℕ) (k p : ℕ)
       → Gives (writeVerdict r buffer) k p ↔ ((row : Row) × Applies (writeRows r buffer) row p × (numberOf (row .cause) ≡ k))
+  -- what a refusal names is there, in the place that it names
+  pub read-fault : (file : List ℕ) (k p : ℕ) → Gives (readVerdict file) k p → FileFault file k p
+  pub write-fault : (r : Request) (buffer : List ℕ) (k p : ℕ) → Gives (writeVerdict r buffer) k p → WriteFault r buffer k p
   -- the rows are the table's, in its order
   pub read-order : (file : List ℕ) → numbersOf (requestFileRows file) ≡ 1 ∷ 2 ∷ 3 ∷ 4 ∷ 5 ∷ 6 ∷ 7 ∷ []
   pub write-order : (r : Request) (buffer : List ℕ) → numbersOf (writeRows r buffer) ≡ 4 ∷ 5 ∷ 6 ∷ 7 ∷ 16 ∷ []

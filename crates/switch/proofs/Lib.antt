@@ -5,6 +5,7 @@ pub mod Search
 pub mod Rows
 pub mod Numbering
 pub mod Within
+pub mod Fault
 pub mod Grid
 pub mod Sharing
 pub mod Agree

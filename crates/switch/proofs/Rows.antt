@@ -3,8 +3,8 @@ use Prim.Native.Nat.{ℕ, _+_, _≤_, _<_}
 use mathlib.Core.Logic.{_⊎_, inl, inr, _↔_}
 use mathlib.Core.Path.{_≡_, refl, sym, _∙_, ap, subst}
 use mathlib.Core.List.{List, [], _∷_, _++_, append-nil}
-use mathlib.Core.List.{List·Memᴰ, List·Memᴰ·head, List·Memᴰ·tail, List·Memᴰ·not-nil, List·Memᴰ·cases-cons}
-use mathlib.Core.Bool.{false}
+use mathlib.Core.List.{List·Memᴰ, List·Memᴰ·head, List·Memᴰ·tail, List·Memᴰ·not-nil, List·Memᴰ·cases-cons, Memᴰ·append-right}
+use mathlib.Core.Bool.{true, false}
 use native.Mathlib.Nat.{add-sub-cancel-left, le-dest}
 use native.Mathlib.Omega.{arith}
 use borrow.Author.Tests.{lt-ltb, le-ltb}
@@ -53,21 +53,35 @@ pub verdict-past : (row : Row) (rest : List Row) → firstOf row ≡ nothing →
 unfolding verdictOf rowVerdict
 verdict-past row rest e = rw e
 
+-- What each row of a list has.
+abbrev pub Each : (Row → Type 0) → List Row → Type 0
+Each P rows = (row : Row) → List·Memᴰ row rows → P row
+
+pub each-nil : (P : Row → Type 0) → Each P []
+each-nil P x m = absurd (List·Memᴰ·not-nil m)
+
+pub each-cons : (P : Row → Type 0) {row : Row} {rows : List Row} → P row → Each P rows → Each P (row ∷ rows)
+each-cons P {row} {rows} p all x m = go (List·Memᴰ·cases-cons m)
+  where
+    go : (x ≡ row) ⊎ List·Memᴰ x rows → P x
+    go (inl e) = subst P (sym e) p
+    go (inr l) = all x l
+
 pub silent-nil : AllSilent []
-silent-nil x m = absurd (List·Memᴰ·not-nil m)
+silent-nil = each-nil Silent
 
 pub silent-cons : {row : Row} {rows : List Row} → Silent row → AllSilent rows → AllSilent (row ∷ rows)
-silent-cons {row} {rows} s all x m = go (List·Memᴰ·cases-cons m)
-  where
-    go : (x ≡ row) ⊎ List·Memᴰ x rows → Silent x
-    go (inl e) = subst Silent (sym e) s
-    go (inr l) = all x l
+silent-cons = each-cons Silent
 
 pub silent-here : {row : Row} {rows : List Row} → AllSilent (row ∷ rows) → Silent row
 silent-here {row} all = all row (List·Memᴰ·head refl)
 
 pub silent-after : {row : Row} {rows : List Row} → AllSilent (row ∷ rows) → AllSilent rows
 silent-after all x m = all x (List·Memᴰ·tail m)
+
+-- Whatever offends against a row, the row's number and the offender's place have Q.
+abbrev pub Named : (ℕ → ℕ → Type 0) → Row → Type 0
+Named Q row = (i : ℕ) → i < row .size → row .offends i ≡ true → Q (numberOf (row .cause)) (row .place i)
 
 -- A row in two parts of one cause says what the first part says, or else the second.
 module _ (a b : Row) where
@@ -89,6 +103,13 @@ module _ (a b : Row) where
   pub silent-joined : Silent a → Silent b → Silent (joined a b)
   silent-joined sa sb =
       by-part (λ i. joined a b .offends i ≡ false) (λ i h. low i h ∙ sa i h) (λ j h. high j ∙ sb j h)
+
+  pub named-joined : (Q : ℕ → ℕ → Type 0) → a .cause ≡ b .cause → Named Q a → Named Q b → Named Q (joined a b)
+  named-joined Q same na nb =
+      by-part (λ i. joined a b .offends i ≡ true → Q (numberOf (a .cause)) (joined a b .place i))
+      (λ i h e. rw (lt-ltb i (a .size) h) (na i h (sym (low i h) ∙ e)))
+      (λ j h e. rw (le-ltb (a .size + j) (a .size) (omega arith), add-sub-cancel-left (a .size) j, same)
+      (nb j h (sym (high j) ∙ e)))
 
   pub silent-first : Silent (joined a b) → Silent a
   silent-first s i h = sym (low i h) ∙ s i (omega arith)
@@ -242,3 +263,11 @@ given-exactly rows k p = (go (verdictOf rows) refl, back)
 
     back : (row : Row) × Applies rows row p × (numberOf (row .cause) ≡ k) → Gives (verdictOf rows) k p
     back (row, a, number) = rw (refused-of-applies rows row p a) (number, refl)
+
+-- So what is given has what every offender of every row has.
+pub gives-named : (rows : List Row) (Q : ℕ → ℕ → Type 0) → Each (Named Q) rows → (k p : ℕ) → Gives (verdictOf rows) k p → Q k p
+gives-named rows Q each k p g =
+    let (row, a, number) = given-exactly rows k p .0 g in
+    let among : List·Memᴰ row rows = subst (List·Memᴰ row) (sym (a .split)) (Memᴰ·append-right (a .before) (List·Memᴰ·head refl)) in
+    let found = each row among (a .offender) (a .first .below) (a .first .here) in
+    subst (λ (n : ℕ). Q n p) number (subst (Q (numberOf (row .cause))) (sym (a .place)) found)

@@ -27,7 +27,7 @@ inside-of-not-outside k e =
     let both = both-true (leb 1 k) (leb k 8) (not-false (leb 1 k && leb k 8) e) in
     (leb-true 1 k (both .0), leb-true k 8 (both .1))
 
-not-outside-of-inside : (k : ℕ) → (1 ≤ k) × (k ≤ 8) → outside k ≡ false
+pub not-outside-of-inside : (k : ℕ) → (1 ≤ k) × (k ≤ 8) → outside k ≡ false
 not-outside-of-inside k (low, high) = simp (le-leb 1 k low, le-leb k 8 high)
 
 zero-of-le : {k : ℕ} → k ≤ 0 → k ≡ 0

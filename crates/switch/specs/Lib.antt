@@ -12,5 +12,6 @@ pub mod Numbering
 pub mod Rows
 pub mod Given
 pub mod RequestRows
+pub mod Fault
 pub mod Tables
 pub mod Drawn
