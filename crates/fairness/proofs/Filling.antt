@@ -1,6 +1,6 @@
 -- The executable filling ends with a fair allocation, for every sound problem, and its base is a product of few divisors.
 use Prim.Native.Nat.{ℕ, zero, suc, _+_, _*_, _≤_, _<_}
-use mathlib.Core.Path.{_≡_, refl, ap, _∙_}
+use mathlib.Core.Path.{_≡_, refl, ap, sym, _∙_}
 use mathlib.Core.Bool.{Bool, true, false}
 use mathlib.Core.Logic.{_⊎_, inl, inr}
 use native.Mathlib.Nat.{le-of-mul-le-mul-right, pos-of-ne-zero, add-sub-of-le, le-refl}
@@ -11,9 +11,9 @@ use Rattle.fairness.specs.Total.{on}
 use Rattle.fairness.specs.Problem.{Problem, Sound, across}
 use Rattle.fairness.specs.Fairness.{Fair}
 use Rattle.laws.specs.Lists.{cells}
-use Rattle.fairness.specs.Filling.{State, start, never, left, limitNext, flowNext, lowest, next, meets, some}
-use Rattle.fairness.specs.Filling.{stopMet, shut, free, happen, round, fill, work, filled, ratesOf}
-use Rattle.fairness.specs.Round.{Stage, rises, waits, stopped, Underway, Reached, Shutting, Step, Counted}
+use Rattle.fairness.specs.Filling.{State, Event, nothing, fills, reaches, start, never, left, limitNext, flowNext, lowest, next}
+use Rattle.fairness.specs.Filling.{meets, some, stopMet, shut, free, happen, round, fill, work, filled, ratesOf}
+use Rattle.fairness.specs.Round.{Stage, rises, waits, stopped, Reached, Shutting, Step, Counted, Between}
 use Rattle.fairness.proofs.Sums.{member-le-total}
 use Rattle.fairness.proofs.Some.{none-of-some, one-of-some}
 use Rattle.fairness.proofs.Lowest.{Below, Lowest, lowest-is, below-trans}
@@ -27,12 +27,16 @@ pub record Ended (P : Problem) (s : State) : Type 0 where
   pub fair : Fair P (ratesOf s)
   pub counted : Counted P (start P) s
 
--- Where a filling can stand between two rounds.
-pub record Between (P : Problem) (s : State) : Type 0 where
-  pub p : ℕ
-  pub q : ℕ
-  pub underway : Underway P s p q
-  pub counted : Counted P (start P) s
+-- Events are told apart by a number for the kind and one for the limit or flow.
+abbrev kindOf : Event → ℕ
+kindOf nothing = 0
+kindOf (fills l) = 1
+kindOf (reaches c) = 2
+
+abbrev numberOf : Event → ℕ
+numberOf nothing = 0
+numberOf (fills l) = l
+numberOf (reaches c) = c
 
 module _ (P : Problem) (sound : Sound P) (s : State) (at : Between P s) where
   inner : Lowest (P .limits) (limitNext P s) never (lowest (P .limits) (limitNext P s) never)
@@ -47,7 +51,7 @@ module _ (P : Problem) (sound : Sound P) (s : State) (at : Between P s) where
       below-trans (next P s) (lowest (P .limits) (limitNext P s) never) (limitNext P s l) (inner .proper) (outer .beyond)
       (inner .each l hl)
 
-  fixed-fits : (l : ℕ) → l < P .limits → across P l (cells (s .fixed)) ≤ P .capacity l * s .base
+  pub fixed-fits : (l : ℕ) → l < P .limits → across P l (cells (s .fixed)) ≤ P .capacity l * s .base
   fixed-fits l hl =
       le-of-mul-le-mul-right {k = at .q} (omega (arith, at .underway .room l hl)) (at .underway .parted)
 
@@ -81,7 +85,7 @@ module _ (P : Problem) (sound : Sound P) (s : State) (at : Between P s) where
   above-flow c pos e (stopped old) = absurd (omega (arith, old .calm))
 
   -- One round on.
-  abbrev Further : State → Type 0
+  abbrev pub Further : State → Type 0
   Further t = Between P t × (work P t < work P s)
 
   met-further : 0 < next P s .parts → at .p * next P s .parts ≤ next P s .high * at .q
@@ -180,7 +184,36 @@ module _ (P : Problem) (sound : Sound P) (s : State) (at : Between P s) where
       go (inl e) (inl n) = inl (e ∙ n)
       go (inl e) (inr (l, hl, q, pos)) = inr (inl (l, hl, e ∙ q, pos))
 
-  round-further : 0 < next P s .parts → Further (round P s (next P s))
+  -- What the event says of what happens next.
+  pub fills-next : (l : ℕ) → next P s .event ≡ fills l
+      → (l < P .limits) × (next P s ≡ limitNext P s l) × (0 < across P l (cells (s .rising)))
+  fills-next l e = go which
+    where
+      go : Which → (l < P .limits) × (next P s ≡ limitNext P s l) × (0 < across P l (cells (s .rising)))
+      go (inl n) = absurd (let k = ap kindOf (sym e ∙ ap (λ x. x .event) n) in omega arith)
+      go (inr (inl (k, hk, q, pos))) =
+          let same : k ≡ l = ap numberOf (sym (ap (λ x. x .event) q) ∙ e) in (rw same at hk, rw same at q, rw same at pos)
+      go (inr (inr (c, hc, q, pos))) = absurd (let k = ap kindOf (sym e ∙ ap (λ x. x .event) q) in omega arith)
+
+  pub reaches-next : (c : ℕ) → next P s .event ≡ reaches c
+      → (c < P .flows) × (next P s ≡ flowNext s c) × (0 < cells (s .waiting) c)
+  reaches-next c e = go which
+    where
+      go : Which → (c < P .flows) × (next P s ≡ flowNext s c) × (0 < cells (s .waiting) c)
+      go (inl n) = absurd (let k = ap kindOf (sym e ∙ ap (λ x. x .event) n) in omega arith)
+      go (inr (inl (l, hl, q, pos))) = absurd (let k = ap kindOf (sym e ∙ ap (λ x. x .event) q) in omega arith)
+      go (inr (inr (k, hk, q, pos))) =
+          let same : k ≡ c = ap numberOf (sym (ap (λ x. x .event) q) ∙ e) in (rw same at hk, rw same at q, rw same at pos)
+
+  pub never-nothing : 0 < next P s .parts → next P s .event ≡ nothing → ⊥
+  never-nothing pos e = go which
+    where
+      go : Which → ⊥
+      go (inl n) = omega (arith, pos, ap (λ x. x .parts) n)
+      go (inr (inl (l, hl, q, w))) = let k = ap kindOf (sym e ∙ ap (λ x. x .event) q) in omega arith
+      go (inr (inr (c, hc, q, w))) = let k = ap kindOf (sym e ∙ ap (λ x. x .event) q) in omega arith
+
+  pub round-further : 0 < next P s .parts → Further (round P s (next P s))
   unfolding round
   round-further pos = go (some (P .flows) (meets P s (next P s))) refl which
     where
@@ -201,6 +234,9 @@ module _ (P : Problem) (sound : Sound P) (s : State) (at : Between P s) where
   never-of-none z (inr (inl (l, hl, e, w))) = absurd (omega (arith, z, ap (λ x. x .parts) e))
   never-of-none z (inr (inr (c, hc, e, w))) = absurd (omega (arith, z, ap (λ x. x .parts) e))
 
+  pub ended-of-none : next P s .parts ≡ 0 → Ended P s
+  ended-of-none z = ended (quiet (never-of-none z which))
+
 -- As many rounds as there is work to do are enough.
 idle-of-no-work : (P : Problem) (s : State) → work P s ≤ 0
     → (c : ℕ) → c < P .flows → (cells (s .rising) c ≡ 0) × (cells (s .waiting) c ≡ 0)
@@ -216,13 +252,14 @@ fill-ends P sound (suc n) s at h = go (fill-ends P sound n) (eqb (next P s .part
   where
     go : ((t : State) → Between P t → work P t ≤ n → Ended P (fill n P t)) → (b : Bool) → eqb (next P s .parts) 0 ≡ b
         → Ended P (elim b [ true ↦ s | false ↦ fill n P (round P s (next P s)) ])
-    go rest true e = ended P sound s at (quiet P sound s at (never-of-none P sound s at (eqb-true _ _ e) (which P sound s at)))
+    go rest true e = ended-of-none P sound s at (eqb-true _ _ e)
     go rest false e =
         let on = round-further P sound s at (pos-of-ne-zero (eqb-false _ _ e)) in
         rest (round P s (next P s)) (on .0) (let l = on .1 in omega arith)
 
+pub between-at-start : (P : Problem) → Sound P → Between P (start P)
+between-at-start P sound = record { p = 0; q = 1; underway = underway-at-start P sound; counted = counted-at-start P sound }
+
 pub filled-ends : (P : Problem) → Sound P → Ended P (filled P)
 unfolding filled
-filled-ends P sound =
-    fill-ends P sound (work P (start P)) (start P)
-    (record { p = 0; q = 1; underway = underway-at-start P sound; counted = counted-at-start P sound }) (le-refl _)
+filled-ends P sound = fill-ends P sound (work P (start P)) (start P) (between-at-start P sound) (le-refl _)

@@ -16,3 +16,4 @@ pub mod Filling
 pub mod Existence
 pub mod Reduced
 pub mod Example
+pub mod SameProblem

@@ -1,12 +1,13 @@
--- The lowest of several levels is at most each of them, and is one of them.
-use Prim.Native.Nat.{ℕ, zero, suc, _*_, _≤_, _<_}
-use mathlib.Core.Path.{_≡_, refl, ap}
+-- The lowest of several levels is at most each of them, and is one of them; and how the search goes on.
+use Prim.Native.Nat.{ℕ, zero, suc, _+_, _*_, _≤_, _<_}
+use mathlib.Core.Path.{_≡_, refl, sym, ap, ap₂, _∙_}
 use mathlib.Core.Bool.{Bool, true, false, cond}
 use mathlib.Core.Logic.{_⊎_, inl, inr, ⊎-map}
 use native.Mathlib.Nat.{not-suc-le-zero, le-refl, le-of-lt, mul-le-mul-right, le-of-mul-le-mul-right, eq-zero-or-pos, mul-zero, mul-pos}
+use native.Mathlib.Numerals.{add-one}
 use native.Mathlib.Omega.{arith}
 use lib.Dec.{ltb}
-use borrow.Author.Tests.{ltb-true, ltb-false}
+use borrow.Author.Tests.{ltb-true, ltb-false, le-ltb}
 use Rattle.fairness.specs.Filling.{Next, lower, lowest}
 use Rattle.laws.proofs.Search.{below-suc}
 
@@ -80,3 +81,33 @@ lowest-is (suc n) f first proper = go (lowest-is n f first proper) (lower-cases 
               (λ i l. below-trans (f n) (lowest n f first) (f i) (old .proper) h (old .each i l)) (le-refl _);
           which = inr (n, (omega arith), refl, pos);
         })
+
+-- One more in the search.
+lowest-more : (n : ℕ) (f : ℕ → Next) (first : Next) → lowest (n + 1) f first ≡ lower (lowest n f first) (f n)
+unfolding lowest
+lowest-more n f first = rw (add-one n)
+
+pub lowest-next : (n : ℕ) (f : ℕ → Next) (first best one : Next) → best ≡ lowest n f first → one ≡ f n
+    → lower best one ≡ lowest (n + 1) f first
+lowest-next n f first best one e d = ap₂ lower e d ∙ sym (lowest-more n f first)
+
+-- Over 0 parts nothing is lower than what there is.
+lower-none : (a b : Next) → b .parts ≡ 0 → lower a b ≡ a
+lower-none a b z = rw (z, mul-zero (a .high), le-ltb (b .high * a .parts) 0 (omega arith))
+
+pub lowest-same : (n : ℕ) (f g : ℕ → Next) (first : Next)
+    → ((i : ℕ) → i < n → (f i ≡ g i) ⊎ ((f i .parts ≡ 0) × (g i .parts ≡ 0))) → lowest n f first ≡ lowest n g first
+unfolding lowest
+lowest-same zero f g first each = refl
+lowest-same (suc n) f g first each = go (lowest-same n f g first (λ i h. each i (omega arith))) (each n (omega arith))
+  where
+    go : lowest n f first ≡ lowest n g first → (f n ≡ g n) ⊎ ((f n .parts ≡ 0) × (g n .parts ≡ 0))
+        → lower (lowest n f first) (f n) ≡ lower (lowest n g first) (g n)
+    go rest (inl e) = ap₂ lower rest e
+    go rest (inr (z, y)) = lower-none (lowest n f first) (f n) z ∙ rest ∙ sym (lower-none (lowest n g first) (g n) y)
+
+pub lowest-none : (n : ℕ) (f : ℕ → Next) (first : Next) → ((i : ℕ) → i < n → f i .parts ≡ 0) → lowest n f first ≡ first
+unfolding lowest
+lowest-none zero f first each = refl
+lowest-none (suc n) f first each =
+    lower-none (lowest n f first) (f n) (each n (omega arith)) ∙ lowest-none n f first (λ i h. each i (omega arith))

@@ -48,6 +48,15 @@ below-demand P s e c f = go (eq-zero-or-pos (cells (s .rising) c))
         le-of-lt (leb-false _ _ t)
 
 -- Flows that meet their demands stop.
+module _ (P : Problem) (s : State) (e : Next) (c : ℕ) (hc : c < P .flows) where
+  pub fixed-met : cells (stopMet P s e .fixed) c ≡ cond (meets P s e c) (P .demand c * s .base) (cells (s .fixed) c)
+  unfolding stopMet
+  fixed-met = cells-list (P .flows) (λ c. cond (meets P s e c) (P .demand c * s .base) (cells (s .fixed) c)) c hc
+
+  pub rising-met : cells (stopMet P s e .rising) c ≡ cond (meets P s e c) 0 (cells (s .rising) c)
+  unfolding stopMet
+  rising-met = cells-list (P .flows) (λ c. cond (meets P s e c) 0 (cells (s .rising) c)) c hc
+
 module _ (P : Problem) (s : State) (e : Next) (p q : ℕ) (now : Underway P s p q) where
   calm-of-rising : (c : ℕ) → 0 < cells (s .rising) c → Stage P s p q c → cells (s .waiting) c ≡ 0
   calm-of-rising c pos (rises r) = r .calm
@@ -55,27 +64,19 @@ module _ (P : Problem) (s : State) (e : Next) (p q : ℕ) (now : Underway P s p 
   calm-of-rising c pos (stopped old) = old .calm
 
   module _ (c : ℕ) (hc : c < P .flows) where
-    fixed-met : cells (stopMet P s e .fixed) c ≡ cond (meets P s e c) (P .demand c * s .base) (cells (s .fixed) c)
-    unfolding stopMet
-    fixed-met = cells-list (P .flows) (λ c. cond (meets P s e c) (P .demand c * s .base) (cells (s .fixed) c)) c hc
-
-    rising-met : cells (stopMet P s e .rising) c ≡ cond (meets P s e c) 0 (cells (s .rising) c)
-    unfolding stopMet
-    rising-met = cells-list (P .flows) (λ c. cond (meets P s e c) 0 (cells (s .rising) c)) c hc
-
     moved-met : (meets P s e c ≡ true) ⊎ (meets P s e c ≡ false) → Moved P s (stopMet P s e) (e .high) (e .parts) 1 c
     unfolding stopMet
     moved-met (inl t) =
         let tests = both-true (ltb 0 (cells (s .rising) c)) _ t in
         let pos = ltb-true 0 (cells (s .rising) c) (tests .0) in
-        met pos (leb-true _ _ (tests .1)) (rising-met ∙ rw t) (calm-of-rising c pos (now .stage c hc))
-        (fixed-met ∙ rw t (omega arith))
-    moved-met (inr f) = kept (rising-met ∙ rw f) refl (fixed-met ∙ rw f (omega arith)) (below-demand P s e c f)
+        met pos (leb-true _ _ (tests .1)) (rising-met P s e c hc ∙ rw t) (calm-of-rising c pos (now .stage c hc))
+        (fixed-met P s e c hc ∙ rw t (omega arith))
+    moved-met (inr f) = kept (rising-met P s e c hc ∙ rw f) refl (fixed-met P s e c hc ∙ rw f (omega arith)) (below-demand P s e c f)
 
     todo-met : (meets P s e c ≡ true) ⊎ (meets P s e c ≡ false) → todo (stopMet P s e) c ≤ todo s c
     unfolding stopMet
-    todo-met (inl t) = rw (rising-met, t) (omega arith)
-    todo-met (inr f) = rw (rising-met, f) (omega arith)
+    todo-met (inl t) = rw (rising-met P s e c hc, t) (omega arith)
+    todo-met (inr f) = rw (rising-met P s e c hc, f) (omega arith)
 
   pub step-met : Step P s (stopMet P s e) (e .high) (e .parts) 1
   unfolding stopMet
@@ -91,7 +92,7 @@ module _ (P : Problem) (s : State) (e : Next) (p q : ℕ) (now : Underway P s p 
   work-met f hf t =
       work-falls P s (stopMet P s e) (λ c hc. todo-met c hc (true-or-false (meets P s e c))) f hf
       (let pos = ltb-true 0 (cells (s .rising) f) (both-true (ltb 0 (cells (s .rising) f)) _ t .0) in
-      rw (rising-met f hf, t) (omega arith))
+      rw (rising-met P s e f hf, t) (omega arith))
 
 -- Limit l fills. Nobody meets a demand at or below the level.
 module _ (P : Problem) (s : State) (l : ℕ) (hl : l < P .limits) (room : across P l (cells (s .fixed)) ≤ P .capacity l * s .base)

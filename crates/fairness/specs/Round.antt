@@ -11,7 +11,7 @@ use Rattle.fairness.specs.Total.{on, total}
 use Rattle.fairness.specs.Product.{sum, product}
 use Rattle.fairness.specs.Problem.{Problem, across}
 use Rattle.laws.specs.Lists.{cells}
-use Rattle.fairness.specs.Filling.{State}
+use Rattle.fairness.specs.Filling.{State, start}
 
 -- Limit l is done with, and is why c has stopped: nothing in it rises or waits, it is full, and every flow through it
 -- is at most c or stands at its minimum.
@@ -130,3 +130,10 @@ pub record Counted (P : Problem) (s₀ s : State) : Type 0 where
   pub base : s .base ≡ product divisors
   pub few : length divisors + opens P s ≤ opens P s₀
   pub small : sum divisors + afoot P s ≤ afoot P s₀
+
+-- Where a filling can stand between two rounds: at some level, and with a count of its divisors.
+pub record Between (P : Problem) (s : State) : Type 0 where
+  pub p : ℕ
+  pub q : ℕ
+  pub underway : Underway P s p q
+  pub counted : Counted P (start P) s

@@ -7,7 +7,7 @@ use lib.ListN.{length, take, drop}
 use lib.Seq.{take-at, drop-at, length-front, length-take-le}
 use borrow.Author.Tests.{le-ltb, ltb-false}
 use Rattle.blocks.specs.Words.{Bytes}
-use Rattle.switch.specs.Rows.{Row, verdictOf}
+use Rattle.switch.specs.Rows.{Row, verdictOf, ifAccepted}
 use Rattle.switch.specs.RequestRows.{requestRows, requestVerdict}
 use Rattle.switch.specs.Within.{Within, Shaped}
 use Rattle.switch.specs.declared.request.Request.{Request}
@@ -16,7 +16,7 @@ use Rattle.switch.specs.declared.verdict.Verdict.{Verdict}
 use Rattle.switch.specs.declared.verdict.Verdict.the-variants.{Accepted, Refused}
 use Rattle.switch.proofs.Rows.{silent-nil, silent-cons, silent-here, accepted-exactly, verdict-append, accepts-both}
 use Rattle.switch.proofs.Within.{within-of-accepted, accepted-of-within}
-use Rattle.files.specs.FileRows.{roomRow, ifAccepted}
+use Rattle.files.specs.FileRows.{roomRow}
 use Rattle.files.specs.RequestFile.{requestFile, requestIn, readVerdict, requestRead, writeVerdict, written}
 use Rattle.files.specs.declared.request.RequestRead.{RequestRead}
 use Rattle.files.proofs.RequestFile.{length-file, read-accepted, read-back, written-of-accepted}

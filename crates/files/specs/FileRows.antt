@@ -8,8 +8,6 @@ use lib.ListN.{length, getD}
 use Rattle.blocks.specs.Check.{sealed, startOf, wordIn}
 use Rattle.switch.specs.Rows.{Row}
 use Rattle.switch.specs.declared.verdict.Cause.the-variants.{Length, Check, Kind, NotZero, Room}
-use Rattle.switch.specs.declared.verdict.Verdict.{Verdict}
-use Rattle.switch.specs.declared.verdict.Verdict.the-variants.{Accepted, Refused}
 
 -- Row 1: a file of this kind has this many bytes. Its only candidate is the file.
 abbrev pub lengthRow : ℕ → List ℕ → Row
@@ -49,8 +47,3 @@ spareRow block from count file =
 abbrev pub roomRow : ℕ → List ℕ → Row
 roomRow size buffer =
     record { cause = Room; size = 1; offends = λ i. ltb (length buffer) size; place = λ i. 0 }
-
--- What a call hands back or leaves behind: one thing if it accepts, another if it refuses.
-abbrev pub ifAccepted : {A : Type 0} → Verdict → A → A → A
-ifAccepted Accepted x y = x
-ifAccepted (Refused r) x y = y

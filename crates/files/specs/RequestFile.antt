@@ -11,13 +11,13 @@ use Rattle.blocks.specs.Words.{wordAt}
 use Rattle.blocks.specs.Check.{startOf, blockOf}
 use Rattle.switch.specs.Cells.{input, output, cellOf, inputCapacity, outputCapacity, demandOf}
 use Rattle.switch.specs.RequestRows.{portsRow, capacityRow, demandRow, notZeroRow, requestRows}
-use Rattle.switch.specs.Rows.{Row, joined, verdictOf}
+use Rattle.switch.specs.Rows.{Row, joined, verdictOf, ifAccepted}
 use Rattle.switch.specs.Values.{zeroRequest}
 use Rattle.switch.specs.declared.port.Input.{Input}
 use Rattle.switch.specs.declared.port.Output.{Output}
 use Rattle.switch.specs.declared.request.Request.{Request}
 use Rattle.switch.specs.declared.verdict.Verdict.{Verdict}
-use Rattle.files.specs.FileRows.{lengthRow, checkRow, kindRow, spareRow, roomRow, ifAccepted}
+use Rattle.files.specs.FileRows.{lengthRow, checkRow, kindRow, spareRow, roomRow}
 use Rattle.files.specs.declared.request.RequestRead.{RequestRead}
 
 -- What the words of a request's block say, each at its place in that paragraph.

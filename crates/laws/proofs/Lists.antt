@@ -5,7 +5,7 @@ use native.Mathlib.Nat.{not-suc-le-zero, le-of-suc-le-suc, add-zero, zero-add, s
 use native.Mathlib.Numerals.{add-one}
 use mathlib.Core.List.{List, [], _∷_, _++_, append-assoc}
 use lib.ListN.{length, getD, set, drop}
-use lib.Seq.{drop-cons, set-at}
+use lib.Seq.{drop-cons, set-at, ext-getD}
 use Rattle.laws.specs.Lists.{cells, listFrom, list}
 
 cells-listFrom : (n i : ℕ) (f : ℕ → ℕ) (c : ℕ) → c < n → cells (listFrom n i f) c ≡ f (i + c)
@@ -49,3 +49,12 @@ filled-more n f d h =
       zero-add n,
       append-assoc (listFrom n 0 f) (f n ∷ []) (drop (suc n) d),
     )
+
+-- A list made by a rule is told by its cells.
+pub list-is : (n : ℕ) (f : ℕ → ℕ) (xs : List ℕ) → length xs ≡ n → ((c : ℕ) → c < n → f c ≡ cells xs c) → list n f ≡ xs
+list-is n f xs long h =
+    ext-getD 0 (list n f) xs (length-list n f ∙ sym long)
+    (λ c l. let hc : c < n = rw (length-list n f) at l in cells-list n f c hc ∙ h c hc)
+
+pub list-same : (n : ℕ) (f g : ℕ → ℕ) → ((c : ℕ) → c < n → f c ≡ g c) → list n f ≡ list n g
+list-same n f g h = list-is n f (list n g) (length-list n g) (λ c hc. h c hc ∙ sym (cells-list n g c hc))

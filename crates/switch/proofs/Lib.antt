@@ -2,6 +2,7 @@
 pub mod Tests
 pub mod Cells
 pub mod Search
+pub mod Stretch
 pub mod Rows
 pub mod Numbering
 pub mod Within

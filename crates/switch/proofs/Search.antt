@@ -5,6 +5,7 @@ use mathlib.Core.Path.{_≡_, refl, _∙_, subst}
 use mathlib.Core.Bool.{Bool, true, false}
 use native.Mathlib.Omega.{arith}
 use borrow.Author.Count.{below-none, below-more}
+use Rattle.laws.proofs.Search.{le-or-lt}
 use Rattle.switch.specs.Given.{Silent, First}
 use Rattle.switch.specs.Rows.{Row, at, nothing, firstFrom, firstOf, refusal, rowVerdict}
 use Rattle.switch.specs.declared.verdict.Verdict.the-variants.{Accepted}
@@ -51,6 +52,16 @@ passed-none row = record { within = omega arith; none = below-none _ }
 pub passed-more : {row : Row} {i : ℕ} → Passed row i → i < row .size → row .offends i ≡ false → Passed row (i + 1)
 passed-more {row} {i} p h e = record { within = omega arith; none = below-more _ i (p .none) e }
 
+-- Candidates that do not offend are passed, however many.
+pub passed-on : {row : Row} {i : ℕ} (j : ℕ) → Passed row i → j ≤ row .size
+    → ((k : ℕ) → i ≤ k → k < j → row .offends k ≡ false)
+    → Passed row j
+passed-on {row} {i} j p h none = record { within = h; none = λ k l. go k l (le-or-lt i k) }
+  where
+    go : (k : ℕ) → k < j → (i ≤ k) ⊎ (k < i) → row .offends k ≡ false
+    go k l (inl e) = none k e l
+    go k l (inr e) = p .none k e
+
 pub row-refuses : {row : Row} {i : ℕ} → Passed row i → i < row .size → row .offends i ≡ true
     → rowVerdict row ≡ refusal (row .cause) (row .place i)
 unfolding rowVerdict
@@ -59,6 +70,20 @@ row-refuses {row} {i} p h e = rw (at-of-first row (record { below = h; here = e;
 pub row-accepts : {row : Row} {i : ℕ} → Passed row i → row .size ≤ i → rowVerdict row ≡ Accepted
 unfolding rowVerdict
 row-accepts {row} {i} p h = rw (nothing-of-silent row (λ k l. p .none k (omega arith)))
+
+-- A search of the candidates from i on and before j: c is the first of them that offends, or is no candidate if none does.
+pub record Sought (row : Row) (i j c : ℕ) : Type 0 where
+  pub earlier : (k : ℕ) → i ≤ k → k < j → k < c → row .offends k ≡ false
+  pub here : c < row .size → (i ≤ c) × (c < j) × (row .offends c ≡ true)
+
+pub sought-more : {row : Row} {i j c : ℕ} → Passed row i → Sought row i j c → j ≤ row .size → row .size ≤ c → Passed row j
+sought-more {row} {i} {j} {c} p s h past = passed-on j p h (λ k l m. s .earlier k l m (omega arith))
+
+pub sought-refuses : {row : Row} {i j c : ℕ} → Passed row i → Sought row i j c → c < row .size
+    → rowVerdict row ≡ refusal (row .cause) (row .place c)
+sought-refuses {row} {i} {j} {c} p s h =
+    let found = s .here h in
+    row-refuses (passed-on c p (omega arith) (λ k l m. s .earlier k l (omega (arith, found .1)) m)) h (found .2)
 
 -- Of the first `n` candidates none offends, or one is the row's first offender.
 searched : (row : Row) (n : ℕ) → n ≤ row .size → ((k : ℕ) → k < n → row .offends k ≡ false) ⊎ ((i : ℕ) × First row i)

@@ -60,3 +60,8 @@ orElse (Refused x) v = Refused x
 unfoldable pub verdictOf : List Row → Verdict
 verdictOf [] = Accepted
 verdictOf (row ∷ rest) = orElse (rowVerdict row) (verdictOf rest)
+
+-- What a call hands back or leaves behind: one thing if it accepts, another if it refuses.
+abbrev pub ifAccepted : {A : Type 0} → Verdict → A → A → A
+ifAccepted Accepted x y = x
+ifAccepted (Refused r) x y = y

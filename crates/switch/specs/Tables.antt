@@ -1,7 +1,7 @@
 -- The parts of rows 5 to 7 as a program walks them: one side's ports, or the cells, with one limit for those that are
 -- used or for those that are not. The rows of a request are made of such parts.
-use Prim.Native.Nat.{ℕ, _+_}
-use mathlib.Core.Bool.{Bool, true, false, not, _&&_}
+use Prim.Native.Nat.{ℕ, _+_, _*_, _≤_, _<_, min}
+use mathlib.Core.Bool.{Bool, true, false, cond, not, _&&_}
 use mathlib.Core.List.{List}
 use lib.Dec.{ltb}
 use lib.ListN.{getD}
@@ -24,6 +24,15 @@ portsOver cause from used count most xs =
 -- The cell is used in a switch of m inputs and n outputs.
 abbrev pub usedAt : ℕ → ℕ → ℕ → Bool
 usedAt m n c = ltb c 64 && (ltb (inputOf c .0) m && ltb (outputOf c .0) n)
+
+-- The end of the used cells of input u, which are the first of its eight.
+abbrev pub usedEnd : ℕ → ℕ → ℕ → ℕ
+usedEnd m n u = 8 * u + cond (ltb u m) (min n 8) 0
+
+-- Of the cells from `first` on and before `last`, c is the first whose number is above `most`. No cell, 64 or more, if none is.
+pub record FirstAbove (most first last : ℕ) (xs : List ℕ) (c : ℕ) : Type 0 where
+  pub earlier : (k : ℕ) → first ≤ k → k < last → k < c → getD xs k 0 ≤ most
+  pub here : c < 64 → (first ≤ c) × (c < last) × (most < getD xs c 0)
 
 -- The 64 cells in words from `from` on.
 abbrev pub cellsOver : Cause → ℕ → Bool → ℕ → ℕ → ℕ → List ℕ → Row

@@ -5,12 +5,12 @@ use Prim.Native.Nat.{ℕ}
 use borrow.Author.Needs.{needs}
 use denote.Ref.{now}
 use Rattle.switch.specs.RequestRows.{portsRow, capacityRow, demandRow, notZeroRow, requestVerdict}
-use Rattle.switch.specs.Rows.{rowVerdict, orElse, verdictOf}
+use Rattle.switch.specs.Rows.{rowVerdict, orElse, verdictOf, ifAccepted}
 use Rattle.switch.specs.Values.{zeroRequest}
 use Rattle.switch.specs.declared.request.Request.{Request}
 use Rattle.switch.specs.declared.verdict.Verdict.{Verdict}
 use Rattle.switch.proofs.Rows.{verdict-joined}
-use Rattle.files.specs.FileRows.{lengthRow, checkRow, kindRow, spareRow, ifAccepted}
+use Rattle.files.specs.FileRows.{lengthRow, checkRow, kindRow, spareRow}
 use Rattle.files.specs.RequestFile.{requestIn, readVerdict}
 use Rattle.files.proofs.request.read_request.Statement.{statement}
 use Rattle.files.proofs.request.read_request.Tie as tie

@@ -1,48 +1,51 @@
--- `cells_over` meets its contract: the loop is the search over the part's candidates.
-use Prim.Native.Nat.{_-_}
-use mathlib.Core.Path.{_≡_, sym, _∙_, ap}
+-- `cells_over` meets its contract: the loop searches the row's candidates input by input.
+use Prim.Native.Nat.{_+_, _*_, _-_}
+use mathlib.Core.Logic.{⊎-elim}
+use mathlib.Core.Path.{sym, _∙_, subst}
 use native.Mathlib.Omega.{arith}
 use borrow.Author.Needs.{needs}
 use denote.Ref.{now}
 use Rattle.switch.specs.Rows.{Row}
-use Rattle.switch.specs.Tables.{sided, cellsOver}
-use Rattle.switch.proofs.Search.{Passed, passed-none, passed-more, row-refuses, row-accepts}
-use Rattle.switch.proofs.Tests.{above-of-same}
+use Rattle.switch.specs.Tables.{cellsOver}
+use Rattle.switch.proofs.Search.{Passed, passed-none, Sought, sought-more, sought-refuses, row-accepts}
+use Rattle.switch.proofs.Stretch.{sought-in-used, sought-in-unused}
 use Rattle.switch.proofs.tables.cells_over.Statement.{statement}
 use Rattle.switch.proofs.tables.cells_over.Tie as tie
 
 abbrev Inv-loop : tie.InvT-loop
-Inv-loop cause from used m n most table c₀ c = Passed (cellsOver cause from used m n most table) c
+Inv-loop cause from used m n most table u₀ u = Passed (cellsOver cause from used m n most table) (8 * u)
 
 abbrev μ-loop : tie.MeasureT-loop
-μ-loop cause from used m n most table c₀ c = 64 - c
+μ-loop cause from used m n most table u₀ u = 8 - u
 
--- The part that is searched, and how far, seen from where the test has been made.
-part : tie.After-above Inv-loop μ-loop → Row
+-- The part that is searched, seen from where an input's cells have been.
+part : tie.Joined1 Inv-loop μ-loop → Row
 part a =
-    let args = a .before .before .before .before .before .before .before .args in
+    let args = a .before .before .before .before .before .args in
     cellsOver (args .cause) (args .from) (args .used) (args .m) (args .n) (args .most) (now (args .table))
 
-passed : (a : tie.After-above Inv-loop μ-loop) → Passed (part a) (a .before .before .before .before .before .loop .c)
+sought : (a : tie.Joined1 Inv-loop μ-loop)
+    → Sought (part a) (8 * a .before .before .before .loop .u) (8 * a .before .before .before .loop .u + 8) (a .if1 .c)
 unfolding part
-passed a = a .before .before .before .before .before .loop .inv
-
-tested : (a : tie.After-above Inv-loop μ-loop) → part a .offends (a .before .before .before .before .before .loop .c) ≡ a .above .result
-unfolding part
-tested a =
-    let used = a .before .before .before .before .before .before .before .args .used in
-    sym (a .above .ensures
-    ∙ above-of-same _ (a .before .before .sided .ensures ∙ ap (sided used) (a .before .before .before .used-at .ensures))
-    (a .before .entry .ensures))
+sought a =
+    let ends = a .before .used-end .ensures in
+    ⊎-elim
+    (λ w. sought-in-used _ _ _ _ _ _ _ _ _ _ _ (omega arith) ends (w .2) (w .0 .taken) (w .1 .ensures))
+    (λ w. sought-in-unused _ _ _ _ _ _ _ _ _ _ _ (omega arith) ends (w .2) (w .0 .left) (w .1 .ensures))
+    (a .if1 .came)
 
 returns : tie.Need-returns Inv-loop μ-loop
 unfolding part
 returns c =
-    c .refused .ensures ∙ sym (row-refuses (passed (c .before .before)) (omega arith) (tested (c .before .before) ∙ c .before .if1 .taken))
+    let a = c .before .before .before in
+    c .refused .ensures ∙ sym (sought-refuses (a .before .before .before .loop .inv) (sought a) (omega arith))
 
 loop-again : tie.Need-loop-again Inv-loop μ-loop
 unfolding part
-loop-again c = passed-more (passed (c .before)) (omega arith) (tested (c .before) ∙ c .if1 .left)
+loop-again c =
+    let a = c .before in
+    let loop = a .before .before .before .loop in
+    subst (Passed (part a)) (omega arith) (sought-more (loop .inv) (sought a) (omega arith) (omega arith))
 
 pub cells-over-spec : {M : Type 1} → statement M
 cells-over-spec =
@@ -51,9 +54,11 @@ cells-over-spec =
     Inv-loop
     μ-loop
     (λ c. passed-none _)
+    (λ c κs. omega arith)
+    (λ c. omega arith)
     (λ c κs. search needs)
-    (λ c κs. search needs)
-    (λ c κs. search needs)
+    (λ c. omega arith)
+    (λ c. omega arith)
     (λ c κs. search needs)
     (λ c. omega arith)
     (λ c κs. search needs)

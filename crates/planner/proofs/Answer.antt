@@ -1,0 +1,90 @@
+-- Fair rates, reduced and with their reasons, are the plan of the request; and the planner's answer is what document 01 says.
+use Prim.Native.Nat.{ℕ, _/_, _≤_, _<_}
+use mathlib.Core.Path.{_≡_, refl, sym, _∙_, subst}
+use mathlib.Core.List.{List}
+use native.Mathlib.Nat.{div-le-self, le-trans, mul-le-mul}
+use native.Mathlib.Omega.{arith}
+use lib.ListN.{length, getD, length-map}
+use Rattle.fairness.specs.Divisor.{gcdOf, GcdOf}
+use Rattle.fairness.specs.Fairness as General
+use Rattle.fairness.specs.Filling.{over}
+use Rattle.fairness.proofs.Divisors.{gcdOf-is}
+use Rattle.fairness.proofs.LeastBase.{divided-pos}
+use Rattle.fairness.proofs.Reduced.{reduced-same, reduced-least}
+use Rattle.fairness.proofs.Unique.{fair-of-same}
+use Rattle.switch.specs.Given.{Gives}
+use Rattle.switch.specs.Planned.{Right, problemOf, planFrom, planOf}
+use Rattle.switch.specs.RequestRows.{requestVerdict}
+use Rattle.switch.specs.Rows.{ifAccepted}
+use Rattle.switch.specs.Values.{emptyPlan}
+use Rattle.switch.specs.Within.{Within}
+use Rattle.switch.specs.declared.plan.Plan.{Plan}
+use Rattle.switch.specs.declared.request.Request.{Request}
+use Rattle.switch.specs.declared.verdict.Verdict.{Verdict}
+use Rattle.switch.specs.declared.verdict.Verdict.the-variants.{Accepted, Refused}
+use Rattle.switch.proofs.Fault.{request-fault}
+use Rattle.switch.proofs.Planned.{right-planFrom, right-planOf, right-is-planOf}
+use Rattle.switch.proofs.Within.{accepted-of-within, within-of-accepted}
+use Rattle.shares.specs.Reason.{reasonsAt}
+use Rattle.shares.specs.Reduced.{reducedBase, reducedNumerators}
+use Rattle.shares.proofs.Bottlenecks.{reasons-right}
+use Rattle.planner.specs.Planned.{planned, Promised, portsOf}
+use Rattle.planner.proofs.Ports.{fair-ports, demand-small}
+
+module _ (r : Request) (within : Within r) (b : ℕ) (xs : List ℕ) (small : b ≤ 17_179_869_184) (long : length xs ≡ 64)
+    (fair : General.Fair (portsOf r) (over b xs)) where
+  common : GcdOf b xs (gcdOf b xs)
+  common = gcdOf-is b xs
+
+  positive : 0 < b
+  positive = fair .allowed .positive
+
+  reduced-fair : General.Fair (problemOf r) (over (reducedBase b xs) (reducedNumerators b xs))
+  reduced-fair =
+      fair-of-same (problemOf r) (over b xs) (over (reducedBase b xs) (reducedNumerators b xs)) (divided-pos common positive)
+      (reduced-same (problemOf r) b (gcdOf b xs) xs common) (fair-ports r (over b xs) fair)
+
+  least : reducedBase b xs ≤ 17_179_869_184
+  least = le-trans (div-le-self b (gcdOf b xs)) small
+
+  bounded : (c : ℕ) → c < 64 → getD (reducedNumerators b xs) c 0 ≤ 1_152_921_504_606_846_976
+  bounded c hc =
+      omega (
+        arith,
+        reduced-fair .allowed .bounded .atMost c hc,
+        mul-le-mul (demand-small r within c hc) least,
+      )
+
+  right : Right r (planFrom r (reducedBase b xs) (reducedNumerators b xs))
+  right =
+      right-planFrom r within (reducedBase b xs) (reducedNumerators b xs) reduced-fair
+      (reduced-least (problemOf r) b (gcdOf b xs) xs common positive long) (length-map xs (λ x. x / gcdOf b xs) ∙ long)
+
+  with-reasons : (reasons : List ℕ)
+      → reasons ≡ reasonsAt (r .m) (r .n) (r .inputs) (r .demands) (reducedBase b xs) (reducedNumerators b xs)
+      → record { base = reducedBase b xs; numerators = reducedNumerators b xs; reasons = reasons }
+      ≡ planFrom r (reducedBase b xs) (reducedNumerators b xs)
+  unfolding planFrom
+  with-reasons reasons e =
+      let same = e ∙ reasons-right r within (reducedBase b xs) (reducedNumerators b xs) (omega (arith, least)) bounded in
+      λ i. record { base = reducedBase b xs; numerators = reducedNumerators b xs; reasons = same i }
+
+  pub plan-of-fair : (reasons : List ℕ)
+      → reasons ≡ reasonsAt (r .m) (r .n) (r .inputs) (r .demands) (reducedBase b xs) (reducedNumerators b xs)
+      → record { base = reducedBase b xs; numerators = reducedNumerators b xs; reasons = reasons } ≡ planOf r
+  plan-of-fair reasons e = with-reasons reasons e ∙ right-is-planOf r within _ right
+
+-- What the answer means.
+empty-if-refused : (v : Verdict) (p : Plan) (k q : ℕ) → Gives v k q → ifAccepted v p emptyPlan ≡ emptyPlan
+empty-if-refused Accepted p k q given = absurd given
+empty-if-refused (Refused x) p k q given = refl
+
+pub planned-as-promised : (r : Request) → Promised r (planned r)
+planned-as-promised r =
+    record {
+      within = λ w.
+          let accepted = accepted-of-within r w in
+          (accepted, subst (λ (v : Verdict). Right r (ifAccepted v (planOf r) emptyPlan)) (sym accepted) (right-planOf r w));
+      accepted = within-of-accepted r;
+      refused = λ k q given. (request-fault r k q given, empty-if-refused (requestVerdict r) (planOf r) k q given);
+    }

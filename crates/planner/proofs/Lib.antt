@@ -1,0 +1,20 @@
+-- What the planner's proofs share.
+pub mod Products
+pub mod Passing
+pub mod Lowering
+pub mod Areas
+pub mod Walks
+pub mod Meeting
+pub mod Halting
+pub mod Stages
+pub mod State
+pub mod Events
+pub mod Kept
+pub mod Starting
+pub mod NextLevel
+pub mod Bounds
+pub mod Ports
+pub mod Answer
+pub mod Turns
+pub mod FirstTurn
+pub mod LastTurn

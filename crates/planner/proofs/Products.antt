@@ -1,0 +1,8 @@
+-- A product that stays below 64 bits.
+use Prim.Native.Nat.{ℕ, _*_, _≤_, _<_}
+use native.Mathlib.Nat.{mul-le-mul}
+use native.Mathlib.Omega.{arith}
+
+-- a level's numerator with a number of parts
+pub level-fits : (x y : ℕ) → x ≤ 288_230_376_151_711_744 → y ≤ 32 → x * y < 18_446_744_073_709_551_616
+level-fits x y h g = omega (arith, mul-le-mul h g)

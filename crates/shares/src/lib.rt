@@ -1,0 +1,7 @@
+// What a plan's numbers say of its ports and flows, and the way to its least base.
+pub mod arithmetic;
+mod count;
+pub mod divisor;
+mod numerator;
+pub mod port;
+pub mod reason;
