@@ -64,6 +64,8 @@ static struct refusal check(const struct request *r)
 
 static uint64_t divisor(uint64_t a, uint64_t b)
 {
+    if (a == 0)
+        return b;
     while (b != 0) {
         uint64_t rest = a % b;
         a = b;
@@ -80,7 +82,8 @@ static void reduce(struct plan *plan)
     if (common == 1)
         return;
     for (int c = 0; c < CELLS; c++)
-        plan->numerators[c] /= common;
+        if (plan->numerators[c] != 0)
+            plan->numerators[c] /= common;
     plan->base /= common;
 }
 

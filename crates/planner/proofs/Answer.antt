@@ -28,10 +28,11 @@ use Rattle.switch.proofs.Within.{accepted-of-within, within-of-accepted}
 use Rattle.shares.specs.Reason.{reasonsAt}
 use Rattle.shares.specs.Reduced.{reducedBase, reducedNumerators}
 use Rattle.shares.proofs.Bottlenecks.{reasons-right}
+use Rattle.planner.specs.Sizes.{mostBase}
 use Rattle.planner.specs.Planned.{planned, Promised, portsOf}
 use Rattle.planner.proofs.Ports.{fair-ports, demand-small}
 
-module _ (r : Request) (within : Within r) (b : ℕ) (xs : List ℕ) (small : b ≤ 17_179_869_184) (long : length xs ≡ 64)
+module _ (r : Request) (within : Within r) (b : ℕ) (xs : List ℕ) (small : b ≤ mostBase) (long : length xs ≡ 64)
     (fair : General.Fair (portsOf r) (over b xs)) where
   common : GcdOf b xs (gcdOf b xs)
   common = gcdOf-is b xs
@@ -44,7 +45,7 @@ module _ (r : Request) (within : Within r) (b : ℕ) (xs : List ℕ) (small : b 
       fair-of-same (problemOf r) (over b xs) (over (reducedBase b xs) (reducedNumerators b xs)) (divided-pos common positive)
       (reduced-same (problemOf r) b (gcdOf b xs) xs common) (fair-ports r (over b xs) fair)
 
-  least : reducedBase b xs ≤ 17_179_869_184
+  least : reducedBase b xs ≤ mostBase
   least = le-trans (div-le-self b (gcdOf b xs)) small
 
   bounded : (c : ℕ) → c < 64 → getD (reducedNumerators b xs) c 0 ≤ 1_152_921_504_606_846_976

@@ -15,6 +15,7 @@ use Rattle.fairness.specs.Filling.{State, Next, meets}
 use Rattle.fairness.proofs.Sums.{on-at-most, total-le}
 use Rattle.fairness.specs.Round.{Between, busyLimits, busyWeight}
 use Rattle.fairness.proofs.Existence.{counted-fits}
+use Rattle.planner.specs.Sizes.{mostAsked, mostBase, mostHigh, mostParts}
 use Rattle.planner.specs.Limits.{limitsOf, through, problem}
 use Rattle.planner.specs.Tables.{Bounded}
 use Rattle.planner.specs.Engine.{risingAt, stateOf, Kept, Modest}
@@ -25,31 +26,31 @@ across-le : (P : Problem) (i : ℕ) (x y : ℕ → ℕ) → ((c : ℕ) → c < P
 across-le P i x y h =
     let sums = total-le (P .flows) (P .through i) x y 1 1 (λ c hc m. omega (arith, h c hc)) in omega arith
 
-pub state-base-small : (P : Problem) (s : State) {heaviest : ℕ} → Modest P heaviest → Between P s → s .base ≤ 17_179_869_184
+pub state-base-small : (P : Problem) (s : State) {heaviest : ℕ} → Modest P heaviest → Between P s → s .base ≤ mostBase
 state-base-small P s modest at =
-    counted-fits P (modest .sound) s (at .counted) (busyLimits P) (busyWeight P) 17_179_869_184 (le-refl _) (le-refl _)
+    counted-fits P (modest .sound) s (at .counted) (busyLimits P) (busyWeight P) mostBase (le-refl _) (le-refl _)
     (modest .divisors)
 
 module _ (cards : Bool) (capacities demands minima weights : List ℕ) where
   abbrev P : Problem
   P = problem cards capacities demands minima weights
 
-  pub weight-small : {heaviest : ℕ} → Modest P heaviest → (c : ℕ) → c < 64 → P .weight c ≤ 32
+  pub weight-small : {heaviest : ℕ} → Modest P heaviest → (c : ℕ) → c < 64 → P .weight c ≤ mostParts
   weight-small modest c hc = le-trans (modest .weights c hc) (modest .heavy)
 
-  pub minimum-small : {heaviest : ℕ} → Modest P heaviest → (c : ℕ) → c < 64 → P .minimum c ≤ 16_777_216
+  pub minimum-small : {heaviest : ℕ} → Modest P heaviest → (c : ℕ) → c < 64 → P .minimum c ≤ mostAsked
   minimum-small modest c hc = le-trans (modest .sound .least c hc) (modest .demands c hc)
 
   module _ (b : ℕ) (stages levels : List ℕ) where
     abbrev s : State
     s = stateOf P b stages levels
 
-    pub base-small : {heaviest : ℕ} → Modest P heaviest → Between P s → b ≤ 17_179_869_184
+    pub base-small : {heaviest : ℕ} → Modest P heaviest → Between P s → b ≤ mostBase
     unfolding stateOf
     base-small modest at = state-base-small P s modest at
 
     pub left-small : {heaviest : ℕ} {left parts : List ℕ} → Modest P heaviest → Between P s → Kept P s left parts
-        → Bounded (limitsOf cards) 288_230_376_151_711_744 left
+        → Bounded (limitsOf cards) mostHigh left
     left-small modest at kept =
         record {
           each = λ l hl.
@@ -61,7 +62,7 @@ module _ (cards : Bool) (capacities demands minima weights : List ℕ) where
     rises-no-more c hc = rw (rising-cell P b stages levels c hc) (on-at-most (eqb (cells stages c) 20) (P .weight c))
 
     pub parts-small : {heaviest : ℕ} {left parts : List ℕ} → Modest P heaviest → Kept P s left parts
-        → Bounded (limitsOf cards) 32 parts
+        → Bounded (limitsOf cards) mostParts parts
     parts-small modest kept =
         record {
           each = λ l hl.

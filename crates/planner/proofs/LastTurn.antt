@@ -9,6 +9,7 @@ use Rattle.laws.proofs.Lists.{list-same}
 use Rattle.fairness.specs.Fairness.{Fair}
 use Rattle.fairness.specs.Filling.{Next, next, over}
 use Rattle.fairness.proofs.Filling.{ended-of-none}
+use Rattle.planner.specs.Sizes.{mostBase, mostHigh, mostParts}
 use Rattle.planner.specs.Limits.{limitsOf, problem}
 use Rattle.planner.specs.Tables.{Bounded}
 use Rattle.planner.specs.Engine.{standing, stateOf, Engaged, Modest, nextOf}
@@ -27,19 +28,19 @@ standing-any cards capacities demands minima weights b stages levels c = refl
 module _ {cards : Bool} {capacities demands minima weights : List ℕ} {heaviest : ℕ} {held : Bool} {at : Progress}
     {stages levels left parts : List ℕ} (modest : Modest (problem cards capacities demands minima weights) heaviest)
     (now : Engaged cards capacities demands minima weights held at stages levels left parts) where
-  pub base-now : at .base ≤ 17_179_869_184
+  pub base-now : at .base ≤ mostBase
   base-now = base-small cards capacities demands minima weights (at .base) stages levels modest (now .between)
 
-  pub left-now : Bounded (limitsOf cards) 288_230_376_151_711_744 left
+  pub left-now : Bounded (limitsOf cards) mostHigh left
   left-now = left-small cards capacities demands minima weights (at .base) stages levels modest (now .between) (now .kept)
 
-  pub parts-now : Bounded (limitsOf cards) 32 parts
+  pub parts-now : Bounded (limitsOf cards) mostParts parts
   parts-now = parts-small cards capacities demands minima weights (at .base) stages levels modest (now .kept)
 
-  pub levels-now : Bounded 20 288_230_376_151_711_744 levels
+  pub levels-now : Bounded 20 mostHigh levels
   levels-now = record { each = λ i hi. omega (arith, now .high i hi, base-now) }
 
-  pub levels-listed : Bounded (limitsOf cards) 288_230_376_151_711_744 levels
+  pub levels-listed : Bounded (limitsOf cards) mostHigh levels
   levels-listed = record { each = λ i hi. levels-now .each i (limit-small cards i hi) }
 
   pub fair-at-last : (e : Level)

@@ -26,6 +26,7 @@ use Rattle.switch.specs.declared.port.Output.{Output}
 use Rattle.switch.specs.declared.request.Request.{Request}
 use Rattle.switch.proofs.Grid.{row-total, column-total}
 use Rattle.switch.proofs.Sharing.{by-cell, by-limit}
+use Rattle.planner.specs.Sizes.{mostAsked, mostParts}
 use Rattle.planner.specs.Limits.{through}
 use Rattle.planner.specs.Planned.{portsOf}
 use Rattle.planner.specs.Engine.{Modest}
@@ -77,27 +78,27 @@ port-weights =
     by-limit (λ l. total 64 (passes l) (λ c. 1) ≡ 8) (λ u h. row-total (u .0) (λ c. 1) h) (λ v h. column-total (v .0) (λ c. 1) h)
 
 module _ (r : Request) (within : Within r) where
-  input-small : (u : Input) → u .0 < 8 → (r .m ≤ u .0) ⊎ (u .0 < r .m) → inputCapacity r u ≤ 16_777_216
+  input-small : (u : Input) → u .0 < 8 → (r .m ≤ u .0) ⊎ (u .0 < r .m) → inputCapacity r u ≤ mostAsked
   input-small u h (inl past) = rw (within .unused-input u past h) (omega arith)
   input-small u h (inr used) = within .input-capacity u used
 
-  output-small : (v : Output) → v .0 < 8 → (r .n ≤ v .0) ⊎ (v .0 < r .n) → outputCapacity r v ≤ 16_777_216
+  output-small : (v : Output) → v .0 < 8 → (r .n ≤ v .0) ⊎ (v .0 < r .n) → outputCapacity r v ≤ mostAsked
   output-small v h (inl past) = rw (within .unused-output v past h) (omega arith)
   output-small v h (inr used) = within .output-capacity v used
 
-  capacity-small : (l : ℕ) → l < 16 → portsOf r .capacity l ≤ 16_777_216
+  capacity-small : (l : ℕ) → l < 16 → portsOf r .capacity l ≤ mostAsked
   capacity-small l hl = rw (capacity-same r l hl) (go (le-or-lt 8 l))
     where
-      go : (8 ≤ l) ⊎ (l < 8) → capacityOf r l ≤ 16_777_216
+      go : (8 ≤ l) ⊎ (l < 8) → capacityOf r l ≤ mostAsked
       go (inr low) = rw (lt-ltb l 8 low) (input-small (input l) low (le-or-lt (r .m) l))
       go (inl high) = rw (le-ltb l 8 high) (output-small (output (l - 8)) (omega arith) (le-or-lt (r .n) (l - 8)))
 
-  pub demand-small : (c : ℕ) → c < 64 → demandOf r c ≤ 16_777_216
+  pub demand-small : (c : ℕ) → c < 64 → demandOf r c ≤ mostAsked
   demand-small =
-      by-cell r (λ c. demandOf r c ≤ 16_777_216) (λ u v used. within .demand u v (used .input) (used .output))
+      by-cell r (λ c. demandOf r c ≤ mostAsked) (λ u v used. within .demand u v (used .input) (used .output))
       (λ u v hu hv past. rw (within .unused-cell u v hu hv past) (omega arith))
 
-  shares : (l : ℕ) → l < 16 → across (portsOf r) l (portsOf r .weight) ≤ 32
+  shares : (l : ℕ) → l < 16 → across (portsOf r) l (portsOf r .weight) ≤ mostParts
   shares l hl =
       let ones = total-same 64 (through l) (portsOf r .weight) (λ c. 1) weight-one in
       omega (arith, across-agree (agree-ports r) l (λ c. 1) hl, port-weights l hl)

@@ -2,7 +2,8 @@
 use Prim.Native.Nat.{ℕ, _*_, _≤_, _<_}
 use native.Mathlib.Nat.{mul-le-mul}
 use native.Mathlib.Omega.{arith}
+use Rattle.planner.specs.Sizes.{mostHigh, mostParts}
 
 -- a level's numerator with a number of parts
-pub level-fits : (x y : ℕ) → x ≤ 288_230_376_151_711_744 → y ≤ 32 → x * y < 18_446_744_073_709_551_616
+pub level-fits : (x y : ℕ) → x ≤ mostHigh → y ≤ mostParts → x * y < 18_446_744_073_709_551_616
 level-fits x y h g = omega (arith, mul-le-mul h g)

@@ -20,6 +20,7 @@ use Rattle.fairness.proofs.Sums.{total-same, total-zero}
 use Rattle.fairness.proofs.Some.{none-of-some, some-alike}
 use Rattle.fairness.proofs.Lowest.{lowest-none}
 use Rattle.fairness.proofs.Filling.{fixed-fits, fills-next, reaches-next, never-nothing, round-further}
+use Rattle.planner.specs.Sizes.{mostAsked}
 use Rattle.planner.specs.Limits.{limitsOf, through, problem}
 use Rattle.planner.specs.Tables.{Roomy, RoomyBy, Taken, Swept, Holds}
 use Rattle.planner.specs.Engine.{stateOf, metAt, metRate, metWeight, metStage, haltRate, haltWeight, haltedStage}
@@ -293,7 +294,7 @@ module _ {cards : Bool} {capacities demands minima weights : List ℕ} {heaviest
       pub limit-listed : e .at < limitsOf cards
       limit-listed = found .0
 
-      high-level : e .high ≤ 16_777_216 * b
+      high-level : e .high ≤ mostAsked * b
       high-level =
           omega (
             arith,
@@ -317,13 +318,13 @@ module _ {cards : Bool} {capacities demands minima weights : List ℕ} {heaviest
         stage-before c hc g above other q =
             before-halt (e .at) limit (through (e .at) c) (cells stages c) g above other (sym (done .swept .marked .before c hc) ∙ q)
 
-        higher : (i : ℕ) → i < 20 → cells levels' i ≤ 16_777_216 * (b * e .parts)
+        higher : (i : ℕ) → i < 20 → cells levels' i ≤ mostAsked * (b * e .parts)
         higher i hi = go (eq-or-not i (e .at)) (le-or-lt (limitsOf cards) i)
           where
-            grown : 16_777_216 * b ≤ 16_777_216 * (b * e .parts)
+            grown : mostAsked * b ≤ mostAsked * (b * e .parts)
             grown = omega (arith, mul-le-mul-right b pos)
 
-            go : (i ≡ e .at) ⊎ (i ≡ e .at → ⊥) → (limitsOf cards ≤ i) ⊎ (i < limitsOf cards) → cells levels' i ≤ 16_777_216 * (b * e .parts)
+            go : (i ≡ e .at) ⊎ (i ≡ e .at → ⊥) → (limitsOf cards ≤ i) ⊎ (i < limitsOf cards) → cells levels' i ≤ mostAsked * (b * e .parts)
             go (inl q) t = rw (q, done .level) (le-trans high-level grown)
             go (inr n) (inl past) = rw (done .levels-kept i past) (le-trans (now .high i hi) grown)
             go (inr n) (inr l) = rw (done .levels-grown i l n) (omega (arith, mul-le-mul-right (e .parts) (now .high i hi)))

@@ -15,6 +15,7 @@ use Rattle.fairness.specs.Problem.{Problem, Sound, across}
 use Rattle.fairness.specs.Fairness.{Fair}
 use Rattle.fairness.specs.Round.{Between, busyLimits, busyWeight}
 use Rattle.fairness.specs.Filling.{over, State, Next, Event, nothing, fills, reaches, never, lowest}
+use Rattle.planner.specs.Sizes.{mostAsked, mostBase, mostHigh, mostParts}
 use Rattle.planner.specs.Limits.{limitsOf, through, problem}
 use Rattle.planner.specs.Tables.{Bounded, Holds, Lowered, Roomy, RoomyBy, Scaled, Swept}
 use Rattle.planner.specs.declared.lowest.Level.{Level}
@@ -106,7 +107,7 @@ haltStage l stages c = cond (through l c) (haltedStage l (cells stages c)) (cell
 
 -- Of the first n flows, none that rises asks for less; and the number itself is no larger than a demand can be.
 pub record Light (n least : ℕ) (demands stages : List ℕ) : Type 0 where
-  pub small : least ≤ 16_777_216
+  pub small : least ≤ mostAsked
   pub each : (c : ℕ) → c < n → cells stages c ≡ 20 → least ≤ cells demands c
 
 -- What is left of each limit and what rises through it are kept, and not worked out anew.
@@ -131,10 +132,10 @@ eventOf at = cond (ltb at 20) (fills at) (cond (ltb at 84) (reaches (at - 20)) n
 abbrev pub nextOf : Level → Next
 nextOf e = record { high = e .high; parts = e .parts; event = eventOf (e .at) }
 
--- A level that leaves room for products in 64 bits: twice the bits of a demand and of a base, and at most 32 parts.
+-- A level that leaves room for products in 64 bits.
 pub record Small (e : Level) : Type 0 where
-  pub high : e .high ≤ 288_230_376_151_711_744
-  pub parts : e .parts ≤ 32
+  pub high : e .high ≤ mostHigh
+  pub parts : e .parts ≤ mostParts
   pub at : e .at ≤ 84
 
 -- When a limit fills, and when a waiting flow's minimum is reached.
@@ -152,15 +153,15 @@ nextEvent cards held base minima weights stages left parts =
     (lowest (limitsOf cards) (limitEvent left parts) never)
 
 -- What the engine asks of the problem that it is handed, so that no number passes 64 bits: capacities and demands as large as
--- a request's, weights that add up to at most 32 at every limit, and divisors whose product stays within 34 bits.
+-- a request's, weights that a limit can take, and divisors whose product is a base.
 pub record Modest (P : Problem) (heaviest : ℕ) : Type 0 where
   pub sound : Sound P
-  pub capacities : (l : ℕ) → l < P .limits → P .capacity l ≤ 16_777_216
-  pub demands : (c : ℕ) → c < 64 → P .demand c ≤ 16_777_216
+  pub capacities : (l : ℕ) → l < P .limits → P .capacity l ≤ mostAsked
+  pub demands : (c : ℕ) → c < 64 → P .demand c ≤ mostAsked
   pub weights : (c : ℕ) → c < 64 → P .weight c ≤ heaviest
-  pub heavy : heaviest ≤ 32
-  pub shares : (l : ℕ) → l < P .limits → across P l (P .weight) ≤ 32
-  pub divisors : (ks : List ℕ) → length ks ≤ busyLimits P → sum ks ≤ busyWeight P → product ks ≤ 17_179_869_184
+  pub heavy : heaviest ≤ mostParts
+  pub shares : (l : ℕ) → l < P .limits → across P l (P .weight) ≤ mostParts
+  pub divisors : (ks : List ℕ) → length ks ≤ busyLimits P → sum ks ≤ busyWeight P → product ks ≤ mostBase
 
 -- The least demand seen so far is no greater than before, and no greater than that of a flow which goes on rising.
 pub record Lightest (new old : Met) (demand stage : ℕ) : Type 0 where
@@ -188,8 +189,8 @@ pub record Freed (cards : Bool) (c x weight : ℕ) (stages stages' left left' pa
 -- What the engine sees to before either of the two happens, and what has happened.
 pub record FillsReady (cards : Bool) (level : Level) (weights stages levels left parts : List ℕ) : Type 0 where
   pub ready : level .at < 20
-      → (level .at < limitsOf cards) × Bounded (limitsOf cards) 288_230_376_151_711_744 levels
-      × Bounded (limitsOf cards) 288_230_376_151_711_744 left
+      → (level .at < limitsOf cards) × Bounded (limitsOf cards) mostHigh levels
+      × Bounded (limitsOf cards) mostHigh left
       × RoomyBy cards (level .parts) (haltRate (level .at) (level .high) weights stages) left
       × Roomy cards (haltWeight (level .at) weights stages) parts
 
@@ -218,7 +219,7 @@ pub record Engaged (cards : Bool) (capacities demands minima weights : List ℕ)
   pub done : Done (problem cards capacities demands minima weights) stages
   pub light : Light 64 (at .least) demands stages
   pub unheld : held ≡ false → (c : ℕ) → c < 64 → cells stages c ≢ 22
-  pub high : (i : ℕ) → i < 20 → cells levels i ≤ 16_777_216 * at .base
+  pub high : (i : ℕ) → i < 20 → cells levels i ≤ mostAsked * at .base
   pub long : (length stages ≡ 64) × (length levels ≡ 20) × (length left ≡ 20) × (length parts ≡ 20)
 
 -- What the turns need to begin with. They do not hold the capacities, so it is enough that there are some.
@@ -232,6 +233,6 @@ pub record Ready (mode : Mode) (demands minima weights stages levels left parts 
 pub record Finished (mode : Mode) (demands minima weights stages stages' levels levels' left parts : List ℕ) (base : ℕ) : Type 0 where
   pub each : (capacities : List ℕ) → Modest (problem (mode .cards) capacities demands minima weights) (mode .heaviest)
       → Engaged (mode .cards) capacities demands minima weights (mode .held) (record { base = 1; least = 0 }) stages levels left parts
-      → (base ≤ 17_179_869_184) × (length stages' ≡ 64) × (length levels' ≡ 20) × Bounded 20 288_230_376_151_711_744 levels'
+      → (base ≤ mostBase) × (length stages' ≡ 64) × (length levels' ≡ 20) × Bounded 20 mostHigh levels'
       × Fair (problem (mode .cards) capacities demands minima weights)
       (over base (list 64 (standing (problem false [] demands minima weights) base stages' levels')))

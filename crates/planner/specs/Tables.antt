@@ -7,6 +7,7 @@ use lib.Dec.{eqb}
 use lib.ListN.{length, set}
 use Rattle.laws.specs.Lists.{cells}
 use Rattle.fairness.specs.Total.{on, total}
+use Rattle.planner.specs.Sizes.{mostParts}
 use Rattle.planner.specs.Limits.{limitsOf, through}
 
 -- No entry of the first n is above `most`.
@@ -80,6 +81,6 @@ pub record Swept (cards : Bool) (i : ℕ) (stage x weight : ℕ → ℕ) (stages
   pub taken : Taken cards i x left left'
   pub freed : Taken cards i weight parts parts'
 
--- The weights that pass a limit add up to at most 32.
+-- No limit has more weights than the engine can take.
 pub record Shared (cards : Bool) (weights : List ℕ) : Type 0 where
-  pub each : (l : ℕ) → l < limitsOf cards → total 64 (through l) (cells weights) ≤ 32
+  pub each : (l : ℕ) → l < limitsOf cards → total 64 (through l) (cells weights) ≤ mostParts

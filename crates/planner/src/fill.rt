@@ -4,6 +4,7 @@ ghost use mathlib.Core.Path.{_≡_};
 ghost use lib.ListN.{length};
 ghost use Rattle.fairness.specs.Fairness.{Fair};
 ghost use Rattle.fairness.specs.Filling.{over};
+ghost use Rattle.planner.specs.Sizes.{mostBase};
 ghost use Rattle.planner.specs.Limits.{problem};
 ghost use Rattle.planner.specs.Engine.{Modest, Ready, Finished};
 use crate::happen::happen;
@@ -65,7 +66,7 @@ pub fn fill(
     numerators: &mut [u64],
 ) -> u64
     requires { ⌜ (length (now demands) ≡ 64) × (length (now minima) ≡ 64) × (length (now weights) ≡ 64) × (length (now numerators) ≡ 64) × Modest (problem cards capacities (now demands) (now minima) (now weights)) heaviest ⌝ }
-    ensures { λ r. ⌜ (r ≤ 17_179_869_184) × (length (now (numerators .exit)) ≡ 64) × Fair (problem cards capacities (now (demands .entry)) (now (minima .entry)) (now (weights .entry))) (over r (now (numerators .exit))) ⌝ }
+    ensures { λ r. ⌜ (r ≤ mostBase) × (length (now (numerators .exit)) ≡ 64) × Fair (problem cards capacities (now (demands .entry)) (now (minima .entry)) (now (weights .entry))) (over r (now (numerators .exit))) ⌝ }
 {
     let mut left = capacities;
     let mut stages = [0u64; 64];

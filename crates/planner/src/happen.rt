@@ -2,6 +2,7 @@
 ghost use Prim.Native.Nat.{_≤_, _<_};
 ghost use mathlib.Core.Path.{_≡_};
 ghost use lib.ListN.{length};
+ghost use Rattle.planner.specs.Sizes.{mostAsked, mostBase, mostParts};
 ghost use Rattle.planner.specs.Tables.{Bounded, Holds};
 ghost use Rattle.planner.specs.Engine.{Small, Freed, FillsReady, ReachesReady, Happened};
 use crate::limits::give;
@@ -10,6 +11,7 @@ use crate::lowest::Level;
 use crate::progress::Mode;
 use crate::progress::Progress;
 use crate::shut::shut;
+use crate::stage::RISING;
 
 // A flow that waited at x begins to rise.
 fn free(
@@ -25,7 +27,7 @@ fn free(
     ensures { λ _. ⌜ Freed cards cell x weight (now (stages .entry)) (now (stages .exit)) (now (left .entry)) (now (left .exit)) (now (parts .entry)) (now (parts .exit)) ⌝ }
 {
     let i = cell as usize;
-    stages[i] = 20;
+    stages[i] = RISING;
     give(cards, cell, x, left);
     give(cards, cell, weight, parts);
 }
@@ -42,8 +44,8 @@ pub fn happen(
     left: &mut [u64],
     parts: &mut [u64],
 ) -> Progress
-    requires { ⌜ Small level × (at .base ≤ 17_179_869_184) × (length (now stages) ≡ 64) × (length (now levels) ≡ 20) ⌝ }
-    requires { ⌜ (length (now weights) ≡ 64) × Bounded 64 32 (now weights) × (length (now minima) ≡ 64) × Bounded 64 16_777_216 (now minima) ⌝ }
+    requires { ⌜ Small level × (at .base ≤ mostBase) × (length (now stages) ≡ 64) × (length (now levels) ≡ 20) ⌝ }
+    requires { ⌜ (length (now weights) ≡ 64) × Bounded 64 mostParts (now weights) × (length (now minima) ≡ 64) × Bounded 64 mostAsked (now minima) ⌝ }
     requires { ⌜ FillsReady (mode .cards) level (now weights) (now stages) (now levels) (now left) (now parts) × ReachesReady (mode .cards) (at .base) level (now minima) (now weights) (now left) (now parts) ⌝ }
     ensures { λ r. ⌜ Happened (mode .cards) at level (now (minima .entry)) (now (weights .entry)) (now (stages .entry)) (now (stages .exit)) (now (levels .entry)) (now (levels .exit)) (now (left .entry)) (now (left .exit)) (now (parts .entry)) (now (parts .exit)) r ⌝ }
 {

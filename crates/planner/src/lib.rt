@@ -7,5 +7,6 @@ pub mod plan;
 mod progress;
 mod rates;
 mod shut;
+mod stage;
 mod start;
 mod stop;

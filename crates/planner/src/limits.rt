@@ -56,6 +56,7 @@ pub fn give(cards: bool, cell: u64, x: u64, table: &mut [u64])
     }
 }
 
+// Widens a number that was just read from a table: a cast in the same step would leave open how large it is.
 pub fn wide(x: u32) -> u64
     ensures { λ r. ⌜ r ≡ x ⌝ }
 {

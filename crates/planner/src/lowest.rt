@@ -5,12 +5,14 @@ ghost use lib.ListN.{length};
 ghost use lib.Dec.{eqb};
 ghost use Rattle.fairness.specs.Total.{on};
 ghost use Rattle.fairness.specs.Filling.{never, lower, lowest};
+ghost use Rattle.planner.specs.Sizes.{mostAsked, mostBase, mostHigh, mostParts};
 ghost use Rattle.planner.specs.Limits.{limitsOf};
 ghost use Rattle.planner.specs.Tables.{Bounded};
 ghost use Rattle.planner.specs.Engine.{Small, nextOf, limitEvent, flowEvent, nextEvent};
 use crate::limits::limits;
 use crate::limits::wide;
 use crate::progress::Mode;
+use crate::stage::WAITING;
 
 // A level, `high` over `parts`, and what happens there: a limit's number, or 20 and a flow's cell, or 84 for nothing.
 pub struct Level {
@@ -33,8 +35,8 @@ fn lower(a: Level, b: Level) -> Level
 
 // The first level, 1 over 0, is above all others.
 fn lowest_limit(cards: bool, left: &[u64], parts: &[u64]) -> Level
-    requires { ⌜ (length (now left) ≡ 20) × Bounded (limitsOf cards) 288_230_376_151_711_744 (now left) ⌝ }
-    requires { ⌜ (length (now parts) ≡ 20) × Bounded (limitsOf cards) 32 (now parts) ⌝ }
+    requires { ⌜ (length (now left) ≡ 20) × Bounded (limitsOf cards) mostHigh (now left) ⌝ }
+    requires { ⌜ (length (now parts) ≡ 20) × Bounded (limitsOf cards) mostParts (now parts) ⌝ }
     ensures { λ r. ⌜ Small r × (nextOf r ≡ lowest (limitsOf cards) (limitEvent (now (left .entry)) (now (parts .entry))) never) ⌝ }
 {
     let mut best = Level {
@@ -58,14 +60,14 @@ fn lowest_limit(cards: bool, left: &[u64], parts: &[u64]) -> Level
 fn waiting(stage: u64, weight: u32) -> u64
     ensures { λ r. ⌜ r ≡ on (eqb stage 22) weight ⌝ }
 {
-    if stage == 22 { weight as u64 } else { 0 }
+    if stage == WAITING { weight as u64 } else { 0 }
 }
 
 // Waiting flows come after the limits.
 fn lowest_flow(first: Level, base: u64, minima: &[u32], weights: &[u32], stages: &[u64]) -> Level
-    requires { ⌜ Small first × (base ≤ 17_179_869_184) × (length (now stages) ≡ 64) ⌝ }
-    requires { ⌜ (length (now minima) ≡ 64) × Bounded 64 16_777_216 (now minima) ⌝ }
-    requires { ⌜ (length (now weights) ≡ 64) × Bounded 64 32 (now weights) ⌝ }
+    requires { ⌜ Small first × (base ≤ mostBase) × (length (now stages) ≡ 64) ⌝ }
+    requires { ⌜ (length (now minima) ≡ 64) × Bounded 64 mostAsked (now minima) ⌝ }
+    requires { ⌜ (length (now weights) ≡ 64) × Bounded 64 mostParts (now weights) ⌝ }
     ensures { λ r. ⌜ Small r × (nextOf r ≡ lowest 64 (flowEvent base (now (minima .entry)) (now (weights .entry)) (now (stages .entry))) (nextOf first)) ⌝ }
 {
     let mut best = first;
@@ -91,8 +93,8 @@ pub fn next_level(
     left: &[u64],
     parts: &[u64],
 ) -> Level
-    requires { ⌜ (length (now left) ≡ 20) × Bounded (limitsOf (mode .cards)) 288_230_376_151_711_744 (now left) × (length (now parts) ≡ 20) × Bounded (limitsOf (mode .cards)) 32 (now parts) ⌝ }
-    requires { ⌜ (base ≤ 17_179_869_184) × (length (now stages) ≡ 64) × (length (now minima) ≡ 64) × Bounded 64 16_777_216 (now minima) × (length (now weights) ≡ 64) × Bounded 64 32 (now weights) ⌝ }
+    requires { ⌜ (length (now left) ≡ 20) × Bounded (limitsOf (mode .cards)) mostHigh (now left) × (length (now parts) ≡ 20) × Bounded (limitsOf (mode .cards)) mostParts (now parts) ⌝ }
+    requires { ⌜ (base ≤ mostBase) × (length (now stages) ≡ 64) × (length (now minima) ≡ 64) × Bounded 64 mostAsked (now minima) × (length (now weights) ≡ 64) × Bounded 64 mostParts (now weights) ⌝ }
     ensures { λ r. ⌜ Small r × (nextOf r ≡ nextEvent (mode .cards) (mode .held) base (now (minima .entry)) (now (weights .entry)) (now (stages .entry)) (now (left .entry)) (now (parts .entry))) ⌝ }
 {
     let level = lowest_limit(mode.cards, left, parts);

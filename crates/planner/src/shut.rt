@@ -6,12 +6,16 @@ ghost use lib.Dec.{eqb};
 ghost use lib.ListN.{length};
 ghost use Rattle.laws.specs.Lists.{cells};
 ghost use Rattle.fairness.specs.Total.{on};
+ghost use Rattle.planner.specs.Sizes.{mostHigh, mostParts};
 ghost use Rattle.planner.specs.Limits.{limitsOf, through};
 ghost use Rattle.planner.specs.Areas.{onCard, areaOf};
 ghost use Rattle.planner.specs.Tables.{Bounded, Covers, Halted, Roomy, RoomyBy, Swept, Scaled};
 ghost use Rattle.planner.specs.Engine.{Small, Shut, haltedStage, haltRate, haltWeight, haltStage};
 use crate::limits::limits;
 use crate::lowest::Level;
+use crate::stage::HELD;
+use crate::stage::RISING;
+use crate::stage::WAITING;
 use crate::stop::stop;
 
 // A walk goes over the cells of a limit from the first of them to the end in equal steps.
@@ -65,7 +69,7 @@ fn halt(
     left: &mut [u64],
     parts: &mut [u64],
 )
-    requires { ⌜ (cell < 64) × (length (now stages) ≡ 64) × (high ≤ 288_230_376_151_711_744) × (weight ≤ 32) × (through limit cell ≡ onCard limit cell) ⌝ }
+    requires { ⌜ (cell < 64) × (length (now stages) ≡ 64) × (high ≤ mostHigh) × (weight ≤ mostParts) × (through limit cell ≡ onCard limit cell) ⌝ }
     requires { ⌜ Covers cards cell (on (through limit cell) (on (eqb (cells (now stages) cell) 20) weight * high)) (now left) × Covers cards cell (on (through limit cell) (on (eqb (cells (now stages) cell) 20) weight)) (now parts) ⌝ }
     ensures { λ _. ⌜ Halted cards cell (cond (through limit cell) (haltedStage limit (cells (now (stages .entry)) cell)) (cells (now (stages .entry)) cell)) (on (through limit cell) (on (eqb (cells (now (stages .entry)) cell) 20) weight * high)) (on (through limit cell) (on (eqb (cells (now (stages .entry)) cell) 20) weight)) (now (stages .entry)) (now (stages .exit)) (now (left .entry)) (now (left .exit)) (now (parts .entry)) (now (parts .exit)) ⌝ }
 {
@@ -73,10 +77,10 @@ fn halt(
         let i = cell as usize;
         let share = weight as u64;
         let stage = stages[i];
-        if stage == 20 {
+        if stage == RISING {
             stop(cards, cell, limit, share * high, share, stages, left, parts);
-        } else if stage == 22 {
-            stages[i] = 23;
+        } else if stage == WAITING {
+            stages[i] = HELD;
         }
     }
 }
@@ -91,8 +95,8 @@ fn halt_all(
     left: &mut [u64],
     parts: &mut [u64],
 )
-    requires { ⌜ (limit < limitsOf cards) × (length (now stages) ≡ 64) × (high ≤ 288_230_376_151_711_744) ⌝ }
-    requires { ⌜ (length (now weights) ≡ 64) × Bounded 64 32 (now weights) ⌝ }
+    requires { ⌜ (limit < limitsOf cards) × (length (now stages) ≡ 64) × (high ≤ mostHigh) ⌝ }
+    requires { ⌜ (length (now weights) ≡ 64) × Bounded 64 mostParts (now weights) ⌝ }
     requires { ⌜ Roomy cards (haltRate limit high (now weights) (now stages)) (now left) × Roomy cards (haltWeight limit (now weights) (now stages)) (now parts) ⌝ }
     ensures { λ _. ⌜ Swept cards 64 (haltStage limit (now (stages .entry))) (haltRate limit high (now (weights .entry)) (now (stages .entry))) (haltWeight limit (now (weights .entry)) (now (stages .entry))) (now (stages .entry)) (now (stages .exit)) (now (left .entry)) (now (left .exit)) (now (parts .entry)) (now (parts .exit)) ⌝ }
 {
@@ -107,7 +111,7 @@ fn halt_all(
 
 // Multiplies the first entries of a table.
 fn scale(count: u64, k: u64, table: &mut [u64])
-    requires { ⌜ (count ≤ 20) × (length (now table) ≡ 20) × Bounded count 288_230_376_151_711_744 (now table) × (k ≤ 32) ⌝ }
+    requires { ⌜ (count ≤ 20) × (length (now table) ≡ 20) × Bounded count mostHigh (now table) × (k ≤ mostParts) ⌝ }
     ensures { λ _. ⌜ Scaled count k (now (table .entry)) (now (table .exit)) ⌝ }
 {
     for l in 0..count {
@@ -126,8 +130,8 @@ pub fn shut(
     left: &mut [u64],
     parts: &mut [u64],
 )
-    requires { ⌜ (level .at < limitsOf cards) × Small level × (length (now stages) ≡ 64) × (length (now weights) ≡ 64) × Bounded 64 32 (now weights) ⌝ }
-    requires { ⌜ (length (now levels) ≡ 20) × Bounded (limitsOf cards) 288_230_376_151_711_744 (now levels) × Bounded (limitsOf cards) 288_230_376_151_711_744 (now left) ⌝ }
+    requires { ⌜ (level .at < limitsOf cards) × Small level × (length (now stages) ≡ 64) × (length (now weights) ≡ 64) × Bounded 64 mostParts (now weights) ⌝ }
+    requires { ⌜ (length (now levels) ≡ 20) × Bounded (limitsOf cards) mostHigh (now levels) × Bounded (limitsOf cards) mostHigh (now left) ⌝ }
     requires { ⌜ RoomyBy cards (level .parts) (haltRate (level .at) (level .high) (now weights) (now stages)) (now left) × Roomy cards (haltWeight (level .at) (now weights) (now stages)) (now parts) ⌝ }
     ensures { λ _. ⌜ Shut cards (level .at) (level .high) (level .parts) (now (weights .entry)) (now (stages .entry)) (now (stages .exit)) (now (levels .entry)) (now (levels .exit)) (now (left .entry)) (now (left .exit)) (now (parts .entry)) (now (parts .exit)) ⌝ }
 {

@@ -7,6 +7,9 @@ ghost use Rattle.planner.specs.Tables.{Covers, Holds, Halted, Roomy, Sha
 ghost use Rattle.planner.specs.Engine.{firstStage, firstWeight, startStage, startWeight, Unheld};
 use crate::limits::give;
 use crate::limits::take;
+use crate::stage::MET;
+use crate::stage::RISING;
+use crate::stage::WAITING;
 
 // A flow with a minimum has it at once and waits; any other rises, unless it asks for nothing.
 fn begin(
@@ -24,13 +27,13 @@ fn begin(
 {
     let i = cell as usize;
     if 0 < minimum {
-        stages[i] = 22;
+        stages[i] = WAITING;
         take(cards, cell, minimum as u64, left);
     } else if 0 < demand {
-        stages[i] = 20;
+        stages[i] = RISING;
         give(cards, cell, weight as u64, parts);
     } else {
-        stages[i] = 21;
+        stages[i] = MET;
     }
 }
 

@@ -6,12 +6,15 @@ ghost use lib.ListN.{length};
 ghost use Rattle.laws.specs.Lists.{cells};
 ghost use Rattle.fairness.specs.Total.{on};
 ghost use Rattle.fairness.specs.Filling.{some};
+ghost use Rattle.planner.specs.Sizes.{mostAsked, mostBase, mostParts};
 ghost use Rattle.planner.specs.Tables.{Bounded, Covers, Halted, Roomy, Swept};
 ghost use Rattle.planner.specs.Engine.{Small, metIn, metAt, metRate, metWeight, metStage, Lightest, Light};
 use crate::limits::take;
 use crate::lowest::Level;
 use crate::progress::Mode;
 use crate::progress::Progress;
+use crate::stage::MET;
+use crate::stage::RISING;
 
 // Gives the flow of a cell its rate, and marks why it stopped.
 pub fn stop(
@@ -41,7 +44,7 @@ pub struct Met {
 
 // Before the walk: no flow has met its demand, and none asks for more than the limit.
 fn none_met() -> Met
-    ensures { λ r. ⌜ (r .any ≡ false) × (r .least ≡ 16_777_216) ⌝ }
+    ensures { λ r. ⌜ (r .any ≡ false) × (r .least ≡ mostAsked) ⌝ }
 {
     Met {
         any: false,
@@ -70,7 +73,7 @@ fn meet(
     left: &mut [u64],
     parts: &mut [u64],
 ) -> Met
-    requires { ⌜ (cell < 64) × (length (now stages) ≡ 64) × (base ≤ 17_179_869_184) × Small level × (demand ≤ 16_777_216) × (weight ≤ 32) × (scaled ≡ base * level .parts) ⌝ }
+    requires { ⌜ (cell < 64) × (length (now stages) ≡ 64) × (base ≤ mostBase) × Small level × (demand ≤ mostAsked) × (weight ≤ mostParts) × (scaled ≡ base * level .parts) ⌝ }
     requires { ⌜ Covers cards cell (on (metIn base level demand weight (now stages) cell) (demand * base)) (now left) ⌝ }
     requires { ⌜ Covers cards cell (on (metIn base level demand weight (now stages) cell) weight) (now parts) ⌝ }
     ensures { λ r. ⌜ r .any ≡ (metIn base level demand weight (now (stages .entry)) cell || met .any) ⌝ }
@@ -80,7 +83,7 @@ fn meet(
     let i = cell as usize;
     let asked = demand as u64;
     let share = weight as u64;
-    if stages[i] != 20 {
+    if stages[i] != RISING {
         return met;
     }
     if level.high * share < asked * scaled {
@@ -89,7 +92,7 @@ fn meet(
             least: lesser(asked, met.least),
         };
     }
-    stop(cards, cell, 21, asked * base, share, stages, left, parts);
+    stop(cards, cell, MET, asked * base, share, stages, left, parts);
     Met {
         any: true,
         least: met.least,
@@ -107,8 +110,8 @@ fn stop_met(
     left: &mut [u64],
     parts: &mut [u64],
 ) -> Met
-    requires { ⌜ (length (now stages) ≡ 64) × (base ≤ 17_179_869_184) × Small level ⌝ }
-    requires { ⌜ (length (now demands) ≡ 64) × Bounded 64 16_777_216 (now demands) × (length (now weights) ≡ 64) × Bounded 64 32 (now weights) ⌝ }
+    requires { ⌜ (length (now stages) ≡ 64) × (base ≤ mostBase) × Small level ⌝ }
+    requires { ⌜ (length (now demands) ≡ 64) × Bounded 64 mostAsked (now demands) × (length (now weights) ≡ 64) × Bounded 64 mostParts (now weights) ⌝ }
     requires { ⌜ Roomy cards (metRate base level (now demands) (now weights) (now stages)) (now left) × Roomy cards (metWeight base level (now demands) (now weights) (now stages)) (now parts) ⌝ }
     ensures { λ r. ⌜ r .any ≡ some 64 (metAt base (level .high) (level .parts) (now (demands .entry)) (now (weights .entry)) (now (stages .entry))) ⌝ }
     ensures { λ r. ⌜ Light 64 (r .least) (now (demands .entry)) (now (stages .exit)) ⌝ }
@@ -146,8 +149,8 @@ pub fn stop_some(
     left: &mut [u64],
     parts: &mut [u64],
 ) -> Met
-    requires { ⌜ (length (now stages) ≡ 64) × (at .base ≤ 17_179_869_184) × Small level × (mode .heaviest ≤ 32) × Bounded 64 (mode .heaviest) (now weights) × Light 64 (at .least) (now demands) (now stages) ⌝ }
-    requires { ⌜ (length (now demands) ≡ 64) × Bounded 64 16_777_216 (now demands) × (length (now weights) ≡ 64) × Bounded 64 32 (now weights) ⌝ }
+    requires { ⌜ (length (now stages) ≡ 64) × (at .base ≤ mostBase) × Small level × (mode .heaviest ≤ mostParts) × Bounded 64 (mode .heaviest) (now weights) × Light 64 (at .least) (now demands) (now stages) ⌝ }
+    requires { ⌜ (length (now demands) ≡ 64) × Bounded 64 mostAsked (now demands) × (length (now weights) ≡ 64) × Bounded 64 mostParts (now weights) ⌝ }
     requires { ⌜ Roomy (mode .cards) (metRate (at .base) level (now demands) (now weights) (now stages)) (now left) × Roomy (mode .cards) (metWeight (at .base) level (now demands) (now weights) (now stages)) (now parts) ⌝ }
     ensures { λ r. ⌜ r .any ≡ some 64 (metAt (at .base) (level .high) (level .parts) (now (demands .entry)) (now (weights .entry)) (now (stages .entry))) ⌝ }
     ensures { λ r. ⌜ Light 64 (r .least) (now (demands .entry)) (now (stages .exit)) ⌝ }

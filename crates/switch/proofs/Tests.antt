@@ -1,6 +1,6 @@
 -- Laws of tests joined by 'and', and of a number that may not pass a bound where a test holds.
 use Prim.Native.Nat.{ℕ, _≤_}
-use mathlib.Core.Path.{_≡_, refl, _∙_, ap}
+use mathlib.Core.Path.{_≡_, refl}
 use mathlib.Core.Bool.{Bool, true, false, _&&_}
 use lib.Dec.{ltb}
 use borrow.Author.Tests.{le-ltb, ltb-false}
@@ -19,6 +19,3 @@ le-of-not-above b most x e h = ltb-false most x (second-false b (ltb most x) e h
 
 pub not-above-of-le : (b : Bool) (most x : ℕ) → (b ≡ true → x ≤ most) → above b most x ≡ false
 not-above-of-le b most x h = and-false-of b (ltb most x) (λ e. le-ltb most x (h e))
-
-pub above-of-same : {a b : Bool} {x y : ℕ} (most : ℕ) → a ≡ b → x ≡ y → above a most x ≡ above b most y
-above-of-same {a} {b} {x} {y} most e h = ap (λ (k : Bool). above k most x) e ∙ ap (λ (k : ℕ). above b most k) h

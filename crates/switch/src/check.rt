@@ -24,14 +24,20 @@ fn ports_row(m: u32, n: u32) -> Verdict
     Verdict::Accepted
 }
 
-fn capacity_row(m: u32, n: u32, inputs: &[u32], outputs: &[u32]) -> Verdict
+fn capacity_row(m: u32, n: u32, inputs: &[u32; 8], outputs: &[u32; 8]) -> Verdict
     ensures { λ r. ⌜ r ≡ rowVerdict (capacityRow (requestOf m n (now (inputs .entry)) (now (outputs .entry)) [])) ⌝ }
 {
     let first = ports_over(Cause::Capacity, 3, true, m, Request::CAPACITY, inputs);
     first.or_else(ports_over(Cause::Capacity, 11, true, n, Request::CAPACITY, outputs))
 }
 
-fn not_zero_row(m: u32, n: u32, inputs: &[u32], outputs: &[u32], demands: &[u32]) -> Verdict
+fn not_zero_row(
+    m: u32,
+    n: u32,
+    inputs: &[u32; 8],
+    outputs: &[u32; 8],
+    demands: &[u32; 64],
+) -> Verdict
     ensures { λ r. ⌜ r ≡ rowVerdict (notZeroRow (requestOf m n (now (inputs .entry)) (now (outputs .entry)) (now (demands .entry)))) ⌝ }
 {
     let first = ports_over(Cause::NotZero, 3, false, m, 0, inputs);

@@ -1,22 +1,15 @@
 // Walks over a request's tables: each looks for the first number above a limit that only used, or only unused, ports or
 // cells have. They serve rows 5 to 7 of the refusal table.
-ghost use Prim.Native.Nat.{_<_};
+ghost use Prim.Native.Nat.{_<_, min};
 ghost use mathlib.Core.Path.{_≡_};
+ghost use mathlib.Core.Bool.{cond};
 ghost use Rattle.switch.specs.Rows.{rowVerdict};
-ghost use Rattle.switch.specs.RequestRows.{outside, above};
-ghost use Rattle.switch.specs.Tables.{sided, usedEnd, FirstAbove, portsOver, cellsOver};
-use crate::entry::entry;
+ghost use Rattle.switch.specs.RequestRows.{outside};
+ghost use Rattle.switch.specs.Tables.{usedEnd, FirstAbove, portsOver, cellsOver};
 use crate::request::Request;
 use crate::verdict::Cause;
 use crate::verdict::Verdict;
 use crate::verdict::refused;
-
-// The test itself, or its opposite.
-fn sided(side: bool, test: bool) -> bool
-    ensures { λ r. ⌜ r ≡ sided side test ⌝ }
-{
-    if side { test } else { !test }
-}
 
 // A number of ports outside the limits.
 pub fn outside(count: u32) -> bool
@@ -25,10 +18,10 @@ pub fn outside(count: u32) -> bool
     !((1 <= count) & (count <= Request::PORTS))
 }
 
-fn above(limited: bool, most: u32, x: u32) -> bool
-    ensures { λ r. ⌜ r ≡ above limited most x ⌝ }
+fn lesser(a: u64, b: u64) -> u64
+    ensures { λ r. ⌜ r ≡ min a b ⌝ }
 {
-    limited & (most < x)
+    if a < b { a } else { b }
 }
 
 // The end of an input's used cells, which are the first of its eight.
@@ -39,22 +32,33 @@ fn used_end(m: u32, n: u32, u: u64) -> u64
     if m as u64 <= u {
         return 8 * u;
     }
-    if n < Request::PORTS {
-        return 8 * u + n as u64;
-    }
-    8 * u + 8
+    8 * u + lesser(n as u64, 8)
 }
 
-// The first of the cells from `first` on and before `last` that holds more than `most`, or 64.
+// The first of the entries from `first` on and before `last` that is more than `most`, or 64. Past its end a table counts as
+// 0, which is never more.
 fn first_above(most: u32, first: u64, last: u64, table: &[u32]) -> u64
     ensures { λ r. ⌜ FirstAbove most first last (now (table .entry)) r ⌝ }
 {
-    for c in first..last {
-        if most < entry(table, c) {
+    let end = lesser(last, table.len() as u64);
+    for c in first..end {
+        if most < table[c as usize] {
             return c;
         }
     }
     64
+}
+
+// The same for a stretch of a table in which the entries before `end` are the used ones: only those are looked at of which
+// the row speaks.
+fn first_over(used: bool, most: u32, first: u64, end: u64, last: u64, table: &[u32]) -> u64
+    ensures { λ r. ⌜ FirstAbove most (cond used first end) (cond used end last) (now (table .entry)) r ⌝ }
+{
+    if used {
+        first_above(most, first, end, table)
+    } else {
+        first_above(most, end, last, table)
+    }
 }
 
 // One side's ports, in words from `from` on; the first `count` are used.
@@ -64,20 +68,19 @@ pub fn ports_over(
     used: bool,
     count: u32,
     most: u32,
-    table: &[u32],
+    table: &[u32; 8],
 ) -> Verdict
     ensures { λ r. ⌜ r ≡ rowVerdict (portsOver cause from used count most (now (table .entry))) ⌝ }
 {
-    for i in 0..8 {
-        let limited = sided(used, i < count as u64);
-        if above(limited, most, entry(table, i)) {
-            return refused(cause, from as u64 + i);
-        }
+    let end = lesser(count as u64, 8);
+    let i = first_over(used, most, 0, end, 8, table);
+    if i < 8 {
+        return refused(cause, from as u64 + i);
     }
     Verdict::Accepted
 }
 
-// The cells, in words from `from` on. Only those are looked at of which the row speaks.
+// The cells, in words from `from` on, input by input.
 pub fn cells_over(
     cause: Cause,
     from: u32,
@@ -85,17 +88,13 @@ pub fn cells_over(
     m: u32,
     n: u32,
     most: u32,
-    table: &[u32],
+    table: &[u32; 64],
 ) -> Verdict
     ensures { λ r. ⌜ r ≡ rowVerdict (cellsOver cause from used m n most (now (table .entry))) ⌝ }
 {
     for u in 0..8 {
         let end = used_end(m, n, u);
-        let c = if used {
-            first_above(most, 8 * u, end, table)
-        } else {
-            first_above(most, end, 8 * u + 8, table)
-        };
+        let c = first_over(used, most, 8 * u, end, 8 * u + 8, table);
         if c < 64 {
             return refused(cause, from as u64 + c);
         }

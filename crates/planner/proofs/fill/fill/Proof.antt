@@ -11,6 +11,7 @@ use Rattle.laws.proofs.Lists.{length-list}
 use Rattle.fairness.specs.Problem.{Problem}
 use Rattle.fairness.specs.Fairness.{Fair}
 use Rattle.fairness.specs.Filling.{over}
+use Rattle.planner.specs.Sizes.{mostBase, mostHigh}
 use Rattle.planner.specs.Limits.{problem}
 use Rattle.planner.specs.Tables.{Bounded}
 use Rattle.planner.specs.Engine.{standing, Engaged, Ready, Finished}
@@ -97,8 +98,8 @@ module _ (c : tie.After-turns) where
   abbrev P : Problem
   P = problem (st .args .cards) (st .args .capacities) (now (st .args .demands)) (now (st .args .minima)) (now (st .args .weights))
 
-  finished : (c .turns .result ≤ 17_179_869_184) × (length stages' ≡ 64) × (length levels' ≡ 20)
-      × Bounded 20 288_230_376_151_711_744 levels'
+  finished : (c .turns .result ≤ mostBase) × (length stages' ≡ 64) × (length levels' ≡ 20)
+      × Bounded 20 mostHigh levels'
       × Fair P
       (over (c .turns .result)
       (list 64

@@ -10,6 +10,7 @@ use denote.Ref.{now}
 use Rattle.laws.proofs.Search.{le-or-lt}
 use Rattle.fairness.specs.Problem.{Problem}
 use Rattle.fairness.specs.Filling.{State, work, next, some, meets}
+use Rattle.planner.specs.Sizes.{mostAsked, mostParts}
 use Rattle.planner.specs.Limits.{problem}
 use Rattle.planner.specs.Tables.{Bounded}
 use Rattle.planner.specs.Engine.{standing, stateOf, nextOf, Modest, Engaged}
@@ -53,11 +54,11 @@ module _ (s : tie.Start Inv-loop μ-loop) where
   fit : Fit own
   fit = s .pre .modest
 
-  minima-small : Bounded 64 16_777_216 (now (s .args .minima))
+  minima-small : Bounded 64 mostAsked (now (s .args .minima))
   minima-small =
       record { each = minimum-small (s .args .mode .cards) own (now (s .args .demands)) (now (s .args .minima)) (now (s .args .weights)) fit }
 
-  weights-small : Bounded 64 32 (now (s .args .weights))
+  weights-small : Bounded 64 mostParts (now (s .args .weights))
   weights-small =
       record { each = weight-small (s .args .mode .cards) own (now (s .args .demands)) (now (s .args .minima)) (now (s .args .weights)) fit }
 

@@ -4,6 +4,7 @@ use mathlib.Core.Path.{refl}
 use native.Mathlib.Nat.{mul-le-mul}
 use native.Mathlib.Omega.{arith}
 use borrow.Author.Needs.{needs}
+use Rattle.planner.specs.Sizes.{mostAsked, mostBase}
 use Rattle.planner.proofs.happen.happen.Statement.{statement}
 use Rattle.planner.proofs.happen.happen.Tie as tie
 
@@ -36,7 +37,7 @@ module _ (c : tie.Else1) where
   flow : s .args .level .at - 20 < 64
   flow = omega (arith, listed)
 
-at-minimum : (c : tie.After-wide) → c .wide .result * s (c .before .before) .args .at .base ≤ 16_777_216 * 17_179_869_184
+at-minimum : (c : tie.After-wide) → c .wide .result * s (c .before .before) .args .at .base ≤ mostAsked * mostBase
 at-minimum c =
     let begun = s (c .before .before) in
     rw (c .wide .ensures)

@@ -10,6 +10,7 @@ use lib.Dec.{eqb}
 use Rattle.laws.specs.Lists.{cells}
 use Rattle.fairness.specs.Filling.{lowest}
 use Rattle.fairness.proofs.Sums.{on-at-most}
+use Rattle.planner.specs.Sizes.{mostAsked, mostBase}
 use Rattle.planner.specs.Engine.{Small, nextOf, flowEvent}
 use Rattle.fairness.proofs.Lowest.{lowest-next}
 use Rattle.planner.proofs.lowest.lowest_flow.Statement.{statement}
@@ -28,7 +29,7 @@ loop-holds c = (omega arith, c .before .before .before .pre .0 .0, refl)
 
 -- The flow's minimum over the base, and its weight, are small.
 at-minimum : (c : tie.After-wide Inv-loop μ-loop)
-    → c .wide .result * c .before .before .before .before .before .before .before .args .base ≤ 16_777_216 * 17_179_869_184
+    → c .wide .result * c .before .before .before .before .before .before .before .args .base ≤ mostAsked * mostBase
 at-minimum c =
     let s = c .before .before .before .before .before .before .before in
     rw (c .wide .ensures) (mul-le-mul (s .pre .1 .0 .1 .each _ (omega arith)) (s .pre .0 .1))

@@ -4,6 +4,7 @@ use native.Mathlib.Nat.{mul-le-mul}
 use native.Mathlib.Omega.{arith}
 use borrow.Author.Needs.{needs}
 use borrow.Author.Tests.{eq-eqb, ne-eqb, lt-ltb, le-ltb}
+use Rattle.planner.specs.Sizes.{mostAsked, mostBase}
 use Rattle.planner.proofs.rates.rate.Statement.{statement}
 use Rattle.planner.proofs.rates.rate.Tie as tie
 
@@ -20,10 +21,10 @@ mul-result-2 c =
 
 -- the demand, and the minimum, over the base
 module _ (s : tie.Start) where
-  demanded : s .args .demand * s .args .base ≤ 16_777_216 * 17_179_869_184
+  demanded : s .args .demand * s .args .base ≤ mostAsked * mostBase
   demanded = mul-le-mul (s .pre .0 .1) (s .pre .0 .0)
 
-  least : s .args .minimum * s .args .base ≤ 16_777_216 * 17_179_869_184
+  least : s .args .minimum * s .args .base ≤ mostAsked * mostBase
   least = mul-le-mul (s .pre .0 .2) (s .pre .0 .0)
 
 returns : tie.Need-returns

@@ -3,6 +3,7 @@ use Prim.Native.Nat.{_-_, _≤_, _<_}
 use mathlib.Core.Path.{_≡_, sym, _∙_}
 use native.Mathlib.Omega.{arith}
 use Rattle.laws.specs.Lists.{cells}
+use Rattle.planner.specs.Sizes.{mostHigh}
 use Rattle.planner.specs.Tables.{Scaled}
 use Rattle.planner.proofs.Products.{level-fits}
 use Rattle.planner.proofs.Walks.{scaled-none, scaled-next}
@@ -19,7 +20,7 @@ abbrev μ-loop : tie.MeasureT-loop
 listed : (c : tie.In-loop Inv-loop μ-loop) → c .before .loop .l < 20
 listed c = omega (arith, c .before .before .pre .0)
 
-small : (c : tie.In-loop Inv-loop μ-loop) → cells (c .before .loop .table) (c .before .loop .l) ≤ 288_230_376_151_711_744
+small : (c : tie.In-loop Inv-loop μ-loop) → cells (c .before .loop .table) (c .before .loop .l) ≤ mostHigh
 small c =
     let s = c .before .before in
     rw (c .before .loop .inv .1 .rest (c .before .loop .l) (omega arith)) (s .pre .2 .each (c .before .loop .l) (omega arith))

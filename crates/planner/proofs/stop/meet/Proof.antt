@@ -11,6 +11,7 @@ use mathlib.Core.List.{List}
 use lib.ListN.{set}
 use lib.Seq.{getD-set-same}
 use Rattle.laws.specs.Lists.{cells}
+use Rattle.planner.specs.Sizes.{mostAsked, mostBase, mostParts}
 use Rattle.planner.specs.Engine.{metIn}
 use Rattle.planner.proofs.Products.{level-fits}
 use Rattle.planner.proofs.Walks.{halted-none}
@@ -41,13 +42,13 @@ module _ (s : tie.Start) where
   is-met e l = rw (eq-eqb stage 20 e, sym (s .pre .0 .6), le-leb there here l)
 
   -- Products of the numbers at hand.
-  parted : s .args .scaled ≤ 17_179_869_184 * 32
+  parted : s .args .scaled ≤ mostBase * mostParts
   parted = rw (s .pre .0 .6) (mul-le-mul (s .pre .0 .2) (s .pre .0 .3 .parts))
 
-  asked : there ≤ 16_777_216 * (17_179_869_184 * 32)
+  asked : there ≤ mostAsked * (mostBase * mostParts)
   asked = mul-le-mul (s .pre .0 .4) parted
 
-  given : s .args .demand * s .args .base ≤ 16_777_216 * 17_179_869_184
+  given : s .args .demand * s .args .base ≤ mostAsked * mostBase
   given = mul-le-mul (s .pre .0 .4) (s .pre .0 .2)
 
 returns : tie.Need-returns

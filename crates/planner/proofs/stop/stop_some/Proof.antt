@@ -5,6 +5,7 @@ use native.Mathlib.Nat.{mul-le-mul}
 use native.Mathlib.Omega.{arith}
 use borrow.Author.Needs.{needs}
 use denote.Ref.{now}
+use Rattle.planner.specs.Sizes.{mostAsked, mostBase, mostParts}
 use Rattle.planner.proofs.Products.{level-fits}
 use Rattle.fairness.proofs.Some.{some-none}
 use Rattle.planner.proofs.Meeting.{none-met, swept-unmet}
@@ -13,10 +14,10 @@ use Rattle.planner.proofs.stop.stop_some.Tie as tie
 
 -- Products of the numbers at hand.
 module _ (s : tie.Start) where
-  parted : s .args .at .base * s .args .level .parts ≤ 17_179_869_184 * 32
+  parted : s .args .at .base * s .args .level .parts ≤ mostBase * mostParts
   parted = mul-le-mul (s .pre .0 .1) (s .pre .0 .2 .parts)
 
-  asked : s .args .at .least * (s .args .at .base * s .args .level .parts) ≤ 16_777_216 * (17_179_869_184 * 32)
+  asked : s .args .at .least * (s .args .at .base * s .args .level .parts) ≤ mostAsked * (mostBase * mostParts)
   asked = mul-le-mul (s .pre .0 .5 .small) parted
 
 returns : tie.Need-returns

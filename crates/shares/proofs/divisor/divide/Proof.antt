@@ -25,12 +25,12 @@ loop-holds c = (omega arith, refl, refl, refl)
 
 loop-again : tie.Need-loop-again Inv-loop μ-loop
 loop-again c =
-    let at = c .before .before .loop in
-    let args = c .before .before .before .args in (
+    let at = c .before .before .before .loop in
+    let args = c .before .before .before .before .before .args in (
       omega arith,
       refl,
       simp length-set (at .inv .2),
-      rw (at .inv .3) (map-more (λ x. x / args .by) (at .i) (now (args .numerators)) (omega arith)),
+      rw (c .quotient .ensures, at .inv .3) (map-more (λ x. x / args .by) (at .i) (now (args .numerators)) (omega arith)),
     )
 
 same-length : tie.Need-same-length Inv-loop μ-loop
@@ -38,24 +38,12 @@ same-length c = c .before .loop .inv .2
 
 returns : tie.Need-returns Inv-loop μ-loop
 returns c =
-    let xs = now (c .before .before .args .numerators) in
+    let xs = now (c .before .before .before .args .numerators) in
     let e : c .before .loop .i ≡ length xs = omega arith in
     c .before .loop .inv .3 ∙ simp (e, take-length, drop-length, append-nil)
 
 pub divide-spec : {M : Type 1} → statement M
 divide-spec =
     tie.close
-    (tie.spec
-    Inv-loop
-    μ-loop
-    loop-holds
-    (λ c. search needs)
-    (λ c. omega arith)
-    (λ c. omega arith)
-    (λ c. search needs)
-    (λ c. omega arith)
-    (λ c. omega arith)
-    (λ c. omega arith)
-    loop-again
-    same-length
-    returns)
+    (tie.spec Inv-loop μ-loop loop-holds (λ c. search needs) (λ c. omega arith) (λ c. omega arith) (λ c. search needs)
+    (λ c. omega arith) (λ c. omega arith) (λ c. omega arith) loop-again same-length returns)

@@ -1,59 +1,37 @@
--- `ports_over` meets its contract: the loop is the search over the part's candidates.
-use Prim.Native.Nat.{_-_}
-use mathlib.Core.Path.{_≡_, sym, _∙_}
+-- `ports_over` meets its contract: one stretch holds all ports of the side.
+use mathlib.Core.Path.{sym, _∙_}
 use native.Mathlib.Omega.{arith}
 use borrow.Author.Needs.{needs}
 use denote.Ref.{now}
 use Rattle.switch.specs.Rows.{Row}
 use Rattle.switch.specs.Tables.{portsOver}
-use Rattle.switch.proofs.Search.{Passed, passed-none, passed-more, row-refuses, row-accepts}
-use Rattle.switch.proofs.Tests.{above-of-same}
+use Rattle.switch.proofs.Search.{Sought, passed-none, sought-more, sought-refuses, row-accepts}
+use Rattle.switch.proofs.Stretch.{sought-stretch, port-split}
 use Rattle.switch.proofs.tables.ports_over.Statement.{statement}
 use Rattle.switch.proofs.tables.ports_over.Tie as tie
 
-abbrev Inv-loop : tie.InvT-loop
-Inv-loop cause from used count most table i₀ i = Passed (portsOver cause from used count most table) i
-
-abbrev μ-loop : tie.MeasureT-loop
-μ-loop cause from used count most table i₀ i = 8 - i
-
--- The part that is searched, and how far, seen from where the test has been made.
-part : tie.After-above Inv-loop μ-loop → Row
+-- The part that is searched.
+part : tie.After-first-over → Row
 part a =
-    let args = a .before .before .before .before .before .before .args in
+    let args = a .before .before .before .args in
     portsOver (args .cause) (args .from) (args .used) (args .count) (args .most) (now (args .table))
 
-passed : (a : tie.After-above Inv-loop μ-loop) → Passed (part a) (a .before .before .before .before .loop .i)
+sought : (a : tie.After-first-over) → Sought (part a) 0 8 (a .first-over .result)
 unfolding part
-passed a = a .before .before .before .before .loop .inv
+sought a =
+    let args = a .before .before .before .args in
+    let end = a .before .before .lesser .ensures in
+    sought-stretch (args .from) (omega arith) (omega arith) (omega (arith, end)) (port-split (args .count) end) (args .used) (a .first-over .ensures)
 
-tested : (a : tie.After-above Inv-loop μ-loop) → part a .offends (a .before .before .before .before .loop .i) ≡ a .above .result
+returns : tie.Need-returns
 unfolding part
-tested a = sym (a .above .ensures ∙ above-of-same _ (a .before .before .sided .ensures) (a .before .entry .ensures))
+returns c = c .refused .ensures ∙ sym (sought-refuses (passed-none _) (sought (c .before .before)) (omega arith))
 
-returns : tie.Need-returns Inv-loop μ-loop
+returns-2 : tie.Need-returns-2
 unfolding part
-returns c =
-    c .refused .ensures ∙ sym (row-refuses (passed (c .before .before)) (omega arith) (tested (c .before .before) ∙ c .before .if1 .taken))
-
-loop-again : tie.Need-loop-again Inv-loop μ-loop
-unfolding part
-loop-again c = passed-more (passed (c .before)) (omega arith) (tested (c .before) ∙ c .if1 .left)
+returns-2 c = sym (row-accepts (sought-more (passed-none _) (sought (c .before)) (omega arith) (omega arith)) (omega arith))
 
 pub ports-over-spec : {M : Type 1} → statement M
 ports-over-spec =
     tie.close
-    (tie.spec
-    Inv-loop
-    μ-loop
-    (λ c. passed-none _)
-    (λ c κs. search needs)
-    (λ c κs. search needs)
-    (λ c κs. search needs)
-    (λ c. omega arith)
-    (λ c κs. search needs)
-    returns
-    (λ c. omega arith)
-    (λ c. omega arith)
-    loop-again
-    (λ c. sym (row-accepts (c .before .loop .inv) (omega arith))))
+    (tie.spec (λ c. search needs) (λ c κs. search needs) (λ c. omega arith) (λ c κs. search needs) returns returns-2)
