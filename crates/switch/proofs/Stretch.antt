@@ -63,45 +63,41 @@ not-true : (b : Bool) → not b ≡ true → b ≡ false
 not-true true e = sym e
 not-true false e = refl
 
--- In a stretch of a table, from `first` on and before `last`, the numbers before `end` are the used ones. A search of those
--- of which the row speaks is a search of the whole stretch.
-module _ {cause : Cause} (from : ℕ) {size most : ℕ} {xs : List ℕ} {isUsed : ℕ → Bool} {first end last c : ℕ}
-    (few : size ≤ 64) (low : first ≤ end) (high : end ≤ last)
-    (split : (k : ℕ) → first ≤ k → k < last → isUsed k ≡ ltb k end)
-  where
-    sought-used : FirstAbove most first end xs c → Sought (tableOver cause from size isUsed true most xs) first last c
-    sought-used f = record { earlier = earlier; here = here }
-      where
-        earlier : (k : ℕ) → first ≤ k → k < last → k < c → tableOver cause from size isUsed true most xs .offends k ≡ false
-        earlier k l h before =
-            not-above-of-le (isUsed k) most (getD xs k 0) (λ e. f .earlier k l (ltb-true k end (sym (split k l h) ∙ e)) before)
+-- A search of those numbers of a stretch of which the row speaks is a search of the whole stretch, from `first` on and before
+-- `last`.
+sought-part : {cause : Cause} (place : ℕ) {size most : ℕ} {xs : List ℕ} {counts : ℕ → Bool} {first last from to c : ℕ}
+    → size ≤ 64
+    → first ≤ from
+    → to ≤ last
+    → ((k : ℕ) → first ≤ k → k < last → counts k ≡ true → (from ≤ k) × (k < to))
+    → ((k : ℕ) → from ≤ k → k < to → counts k ≡ true)
+    → FirstAbove most from to xs c
+    → Sought (tableOver cause place size counts true most xs) first last c
+sought-part place {most = most} {xs = xs} {counts = counts} {c = c} few low high only all f =
+    record {
+      earlier = λ k l h before.
+          not-above-of-le (counts k) most (getD xs k 0) (λ e. f .earlier k (only k l h e .0) (only k l h e .1) before);
+      here = λ h.
+          let found = f .here (omega arith) in
+          (omega (arith, found .0), omega (arith, found .1), simp (all c (found .0) (found .1), lt-ltb most (getD xs c 0) (found .2)));
+    }
 
-        here : c < size → (first ≤ c) × (c < last) × (tableOver cause from size isUsed true most xs .offends c ≡ true)
-        here h =
-            let found = f .here (omega arith) in
-            let near : c < last = omega (arith, found .1) in
-            let used = split c (found .0) near in
-            (found .0, near, simp (used, lt-ltb c end (found .1), lt-ltb most (getD xs c 0) (found .2)))
-
-    sought-unused : FirstAbove most end last xs c → Sought (tableOver cause from size isUsed false most xs) first last c
-    sought-unused f = record { earlier = earlier; here = here }
-      where
-        earlier : (k : ℕ) → first ≤ k → k < last → k < c → tableOver cause from size isUsed false most xs .offends k ≡ false
-        earlier k l h before =
-            not-above-of-le (not (isUsed k)) most (getD xs k 0) (λ e.
-            f .earlier k (ltb-false k end (sym (split k l h) ∙ not-true (isUsed k) e)) h before)
-
-        here : c < size → (first ≤ c) × (c < last) × (tableOver cause from size isUsed false most xs .offends c ≡ true)
-        here h =
-            let found = f .here (omega arith) in
-            let far : first ≤ c = omega (arith, found .0) in
-            let used = split c far (found .1) in
-            (far, found .1, simp (used, le-ltb c end (found .0), lt-ltb most (getD xs c 0) (found .2)))
-
-    pub sought-stretch : (used : Bool) → FirstAbove most (cond used first end) (cond used end last) xs c
-        → Sought (tableOver cause from size isUsed used most xs) first last c
-    sought-stretch true f = sought-used f
-    sought-stretch false f = sought-unused f
+-- In the stretch the numbers before `end` are the used ones.
+pub sought-stretch : {cause : Cause} (place : ℕ) {size most : ℕ} {xs : List ℕ} {isUsed : ℕ → Bool} {first end last c : ℕ}
+    → size ≤ 64
+    → first ≤ end
+    → end ≤ last
+    → ((k : ℕ) → first ≤ k → k < last → isUsed k ≡ ltb k end)
+    → (used : Bool)
+    → FirstAbove most (cond used first end) (cond used end last) xs c
+    → Sought (tableOver cause place size isUsed used most xs) first last c
+sought-stretch place {end = end} few low high split true f =
+    sought-part place few (omega arith) high (λ k l h e. (l, ltb-true k end (sym (split k l h) ∙ e)))
+    (λ k l h. split k l (omega arith) ∙ lt-ltb k end h) f
+sought-stretch place {isUsed = isUsed} {end = end} few low high split false f =
+    sought-part place {counts = λ k. not (isUsed k)} few low (omega arith)
+    (λ k l h e. (ltb-false k end (sym (split k l h) ∙ not-true (isUsed k) e), h))
+    (λ k l h. ap not (split k (omega arith) h ∙ le-ltb k end l)) f
 
 -- One more number that is no more than `most`.
 pub none-more : (xs : List ℕ) (most first c : ℕ) → ((k : ℕ) → first ≤ k → k < c → getD xs k 0 ≤ most) → getD xs c 0 ≤ most
