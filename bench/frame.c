@@ -1,4 +1,5 @@
-/* The frame of the C programs: reads what the program measure reads, plans it as often, and prints a digest likewise. */
+/* The frame of the C programs: reads what the program measure reads, plans it as often, and prints a digest likewise. What else
+ * measure can do is nothing to it, so the upper half of the first word is not looked at. */
 #include "request.h"
 
 #include <inttypes.h>
@@ -50,7 +51,8 @@ int main(void)
     size_t length = fread(input, 1, INPUT, stdin);
     uint64_t digest = 0;
     if (length >= 4 + BLOCK) {
-        uint32_t rounds = word(input, 0) < MOST_ROUNDS ? word(input, 0) : MOST_ROUNDS;
+        uint32_t asked = word(input, 0) % 65536;
+        uint32_t rounds = asked < MOST_ROUNDS ? asked : MOST_ROUNDS;
         for (size_t at = 4; at + BLOCK <= length; at += BLOCK) {
             struct request request;
             read_request(input + at, &request);

@@ -1,19 +1,19 @@
 -- A block that was sealed passes, and a change of any one word is seen.
 use Prim.Native.Nat.{ℕ, zero, suc, _+_, _*_, _/_, _%_, _≤_, _<_}
-use mathlib.Core.Path.{_≡_, refl, sym, _∙_}
+use mathlib.Core.Path.{_≡_, refl, sym, ap, _∙_}
 use mathlib.Core.Bool.{true, false}
 use mathlib.Core.Logic.{_⊎_, inl, inr}
 use mathlib.Core.List.{List, _++_, append-assoc}
 use native.Mathlib.Nat.{zero-add}
 use native.Mathlib.Omega.{arith}
-use lib.ListN.{length, drop, length-append, length-drop}
-use lib.Seq.{drop-drop}
+use lib.ListN.{length, take, drop, length-append, length-drop, take-append-drop}
+use lib.Seq.{length-take-le, drop-drop}
 use borrow.Author.Tests.{eq-eqb, ne-eqb, eqb-true}
 use Rattle.laws.proofs.Search.{eq-or-not}
 use Rattle.blocks.specs.Words.{Bytes, bytesOf, wordAt, withWord, laid}
 use Rattle.blocks.specs.Check.{rotated, taken, running, check, sealed, startOf, wordIn, OneWord, sealedIn, blockOf}
 use Rattle.blocks.proofs.Words.{bytes-of, bytes-append, bytes-laid, word-below, bytes-with-word, word-with-same, word-with-other, word-after}
-use Rattle.blocks.proofs.Words.{with-word-after, length-laid, word-laid}
+use Rattle.blocks.proofs.Words.{with-word-after, length-laid, word-laid, laid-more, word-behind, with-word-behind}
 
 -- The checks of the first three blocks of a file of zeros.
 pub empty-block-checks : (check (startOf 0) (λ i. 0) ≡ 2_147_483_648)
@@ -135,3 +135,53 @@ module _ (start : ℕ) (w : ℕ → ℕ) where
       rw same
       (with-word-after (laid w 127) 127 rest (check start w) (length-laid w 127) (simp length-drop (omega arith))
       ∙ rw (← drop-drop 4 508 file, append-assoc))
+
+-- The same of a block behind so many others.
+module _ (start : ℕ) (w : ℕ → ℕ) (small : (i : ℕ) → i < 127 → w i < 4_294_967_296) (front rest : List ℕ) (block : ℕ)
+    (e : length front ≡ 512 * block) where
+  pub block-words-behind : (i : ℕ) → i < 127 → wordIn (front ++ (blockOf start w ++ rest)) block i ≡ w i
+  block-words-behind i h =
+      word-behind front (128 * block) (omega arith) (blockOf start w ++ rest) i ∙ block-words start w rest i h (small i h)
+
+  pub block-sealed-behind : sealed start (wordIn (front ++ (blockOf start w ++ rest)) block) ≡ true
+  block-sealed-behind =
+      eq-eqb _ _
+      (word-behind front (128 * block) (omega arith) (blockOf start w ++ rest) 127 ∙ block-check start w rest
+      ∙ sym (running-same start _ w 127 block-words-behind))
+
+-- Behind so many blocks a block is sealed as it is at the front.
+seal-behind : (start : ℕ) (front rest : List ℕ) (block : ℕ) → length front ≡ 512 * block
+    → sealedIn start (front ++ rest) block ≡ front ++ sealedIn start rest 0
+seal-behind start front rest block e =
+    let k : ℕ = 128 * block in
+    let size : length front ≡ 4 * k = omega arith in
+    with-word-behind front k size rest 127 _
+    ∙ ap (λ (sum : ℕ). front ++ withWord rest 127 sum)
+    (running-same start _ _ 127 (λ i h. rw zero-add (word-behind front k size rest i)))
+
+-- A buffer in whose block the first k words are laid.
+abbrev pub laidIn : List ℕ → ℕ → (ℕ → ℕ) → ℕ → List ℕ
+laidIn buffer block w k = take (512 * block) buffer ++ (laid w k ++ drop (4 * k) (drop (512 * block) buffer))
+
+pub none-laid-in : (buffer : List ℕ) (block : ℕ) (w : ℕ → ℕ) → buffer ≡ laidIn buffer block w 0
+unfolding laid
+none-laid-in buffer block w = sym (take-append-drop (512 * block) buffer)
+
+module _ (buffer : List ℕ) (block : ℕ) (room : 512 * block + 512 ≤ length buffer) (w : ℕ → ℕ) where
+  size : length (take (512 * block) buffer) ≡ 512 * block
+  size = length-take-le (512 * block) buffer (omega arith)
+
+  left : 512 ≤ length (drop (512 * block) buffer)
+  left = rw length-drop (omega arith)
+
+  pub laid-in-more : (k : ℕ) → k < 127 → withWord (laidIn buffer block w k) (128 * block + k) (w k) ≡ laidIn buffer block w (k + 1)
+  laid-in-more k h =
+      with-word-behind (take (512 * block) buffer) (128 * block) (omega (arith, size)) _ k (w k)
+      ∙ ap (λ (f : List ℕ). take (512 * block) buffer ++ f) (laid-more w k (drop (512 * block) buffer) (omega (arith, left)))
+
+  pub seal-laid-in : (start next : ℕ) → next ≡ 512 * block + 512 → ((i : ℕ) → i < 127 → w i < 4_294_967_296)
+      → sealedIn start (laidIn buffer block w 127) block ≡ take (512 * block) buffer ++ (blockOf start w ++ drop next buffer)
+  seal-laid-in start next e small =
+      seal-behind start (take (512 * block) buffer) _ block size
+      ∙ ap (λ (f : List ℕ). take (512 * block) buffer ++ f) (seal-laid start w (drop (512 * block) buffer) left small)
+      ∙ rw (drop-drop 512 (512 * block) buffer, e)

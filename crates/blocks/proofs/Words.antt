@@ -4,7 +4,7 @@ use mathlib.Core.Path.{_≡_, refl, sym, ap, _∙_}
 use mathlib.Core.Bool.{Bool, true, false, cond}
 use mathlib.Core.Logic.{_≢_, _⊎_, inl, inr}
 use mathlib.Core.List.{List, [], _∷_, _++_, append-assoc}
-use native.Mathlib.Nat.{add-mul-mod-self-left, div-div-eq-div-mul, mod-eq-of-lt}
+use native.Mathlib.Nat.{add-zero, add-mul-mod-self-left, div-div-eq-div-mul, mod-eq-of-lt}
 use native.Mathlib.Numerals.{add-one, towards-suc}
 use native.Mathlib.Omega.{arith}
 use lib.ListN.{length, getD, set, take, drop, length-append, length-drop, take-append-drop}
@@ -61,6 +61,32 @@ unfolding wordAt
 word-below file b i =
     either (λ w. w < 4_294_967_296) (whole file i)
     (omega (arith, b (4 * i), b (4 * i + 1), b (4 * i + 2), b (4 * i + 3))) (omega arith)
+
+pub word-there : (file : List ℕ) (i : ℕ) → i < length file / 4
+    → wordAt file i ≡ wordOf (getD file (4 * i) 0) (getD file (4 * i + 1) 0) (getD file (4 * i + 2) 0) (getD file (4 * i + 3) 0)
+unfolding wordAt
+word-there file i h = simp (lt-ltb i (length file / 4) h)
+
+-- Of a word that is made of four bytes these are the bytes.
+pub byte-of-word : (file : List ℕ) → Bytes file → (i : ℕ) → i < length file / 4 → (f : ℕ → ℕ) (c : ℕ)
+    → ((j : ℕ) → j < 4 → f (c + j) < 256)
+    → wordAt file i ≡ wordOf (f c) (f (c + 1)) (f (c + 2)) (f (c + 3))
+    → (j : ℕ)
+    → j < 4
+    → getD file (4 * i + j) 0 ≡ f (c + j)
+byte-of-word file b i h f c small e j l =
+    let first : f c < 256 = rw add-zero at (small 0 (omega arith)) in
+    go (sym (bytes-of-word _ _ _ _ (b (4 * i)) (b (4 * i + 1)) (b (4 * i + 2)) (b (4 * i + 3))) ∙ ap bytesOf (sym (word-there file i h) ∙ e)
+    ∙ bytes-of-word _ _ _ _ first (small 1 (omega arith)) (small 2 (omega arith)) (small 3 (omega arith))) j l
+  where
+    go : getD file (4 * i) 0 ∷ getD file (4 * i + 1) 0 ∷ getD file (4 * i + 2) 0 ∷ getD file (4 * i + 3) 0 ∷ []
+        ≡ f c ∷ f (c + 1) ∷ f (c + 2) ∷ f (c + 3) ∷ []
+        → (j : ℕ) → j < 4 → getD file (4 * i + j) 0 ≡ f (c + j)
+    go same zero l = rw (add-zero (4 * i), add-zero c) (ap (λ (x : List ℕ). getD x 0 0) same)
+    go same (suc zero) l = ap (λ (x : List ℕ). getD x 1 0) same
+    go same (suc (suc zero)) l = ap (λ (x : List ℕ). getD x 2 0) same
+    go same (suc (suc (suc zero))) l = ap (λ (x : List ℕ). getD x 3 0) same
+    go same (suc (suc (suc (suc j)))) l = absurd (omega arith)
 
 pub length-with-word : (file : List ℕ) (i w : ℕ) → length (withWord file i w) ≡ length file
 unfolding withWord
@@ -177,6 +203,47 @@ laid-more w k file h =
     let n : 4 * (k + 1) ≡ 4 * k + 4 = omega arith in
     with-word-after (laid w k) k (drop (4 * k) file) (w k) (length-laid w k) (simp length-drop (omega arith))
     ∙ rw (n, ← drop-drop 4 (4 * k) file, add-one k, append-assoc)
+
+-- Behind 4 * k bytes lie words k and on: they are read, and put in, as the words of those bytes alone.
+module _ (front : List ℕ) (k : ℕ) (e : length front ≡ 4 * k) (rest : List ℕ) (i : ℕ) where
+  whole-behind : whole (front ++ rest) (k + i) ≡ whole rest i
+  whole-behind = go (le-or-lt (length rest / 4) i)
+    where
+      go : (length rest / 4 ≤ i) ⊎ (i < length rest / 4) → whole (front ++ rest) (k + i) ≡ whole rest i
+      go (inl l) = le-ltb (k + i) _ (simp length-append (omega arith)) ∙ sym (le-ltb i _ l)
+      go (inr l) = lt-ltb (k + i) _ (simp length-append (omega arith)) ∙ sym (lt-ltb i _ l)
+
+  byte-behind : (m j : ℕ) → m ≡ length front + j → getD (front ++ rest) m 0 ≡ getD rest j 0
+  byte-behind m j h = rw h (getD-append-add front rest j 0)
+
+  pub word-behind : wordAt (front ++ rest) (k + i) ≡ wordAt rest i
+  unfolding wordAt
+  word-behind =
+      rw (
+        whole-behind,
+        byte-behind (4 * (k + i)) (4 * i) (omega arith),
+        byte-behind (4 * (k + i) + 1) (4 * i + 1) (omega arith),
+        byte-behind (4 * (k + i) + 2) (4 * i + 2) (omega arith),
+        byte-behind (4 * (k + i) + 3) (4 * i + 3) (omega arith),
+      )
+
+  pub with-word-behind : (w : ℕ) → withWord (front ++ rest) (k + i) w ≡ front ++ withWord rest i w
+  with-word-behind w = go (le-or-lt (length rest / 4) i)
+    where
+      go : (length rest / 4 ≤ i) ⊎ (i < length rest / 4) → withWord (front ++ rest) (k + i) w ≡ front ++ withWord rest i w
+      go (inl l) = rw (with-word-past (front ++ rest) (k + i) w (simp length-append (omega arith)), with-word-past rest i w l)
+      go (inr l) =
+          let p : List ℕ = take (4 * i) rest in
+          let q : List ℕ = drop (4 * i) rest in
+          let size : length p ≡ 4 * i = length-take-le (4 * i) rest (omega arith) in
+          let room : 4 ≤ length q = simp length-drop (omega arith) in
+          let whole-size : length (front ++ p) ≡ 4 * (k + i) = simp length-append (omega arith) in
+          ap (λ (f : List ℕ). withWord (front ++ f) (k + i) w) (sym (take-append-drop (4 * i) rest))
+          ∙ ap (λ (f : List ℕ). withWord f (k + i) w) (sym (append-assoc front p q))
+          ∙ with-word-after (front ++ p) (k + i) q w whole-size room
+          ∙ append-assoc front p (bytesOf w ++ drop 4 q)
+          ∙ ap (λ (f : List ℕ). front ++ f)
+          (sym (with-word-after p i q w size room) ∙ ap (λ (f : List ℕ). withWord f i w) (take-append-drop (4 * i) rest))
 
 -- And bytes that are read as words and laid out are as they were.
 pub laid-words : (file : List ℕ) → Bytes file → (k : ℕ) → 4 * k ≤ length file → laid (wordAt file) k ≡ take (4 * k) file

@@ -15,7 +15,7 @@ use Rattle.switch.proofs.Cells.{cell-below, cell-of-ports}
 use Rattle.files.specs.RequestFile.{Holds, requestWord}
 
 -- What holds of the n numbers from a on, and of those after them, holds of all from a on.
-from : (Q : ℕ → Type 0) (a n : ℕ) → ((k : ℕ) → k < n → Q (a + k)) → ((i : ℕ) → a + n ≤ i → Q i) → (i : ℕ) → a ≤ i → Q i
+pub from : (Q : ℕ → Type 0) (a n : ℕ) → ((k : ℕ) → k < n → Q (a + k)) → ((i : ℕ) → a + n ≤ i → Q i) → (i : ℕ) → a ≤ i → Q i
 from Q a n here later i h = go (le-or-lt (a + n) i)
   where
     go : (a + n ≤ i) ⊎ (i < a + n) → Q i

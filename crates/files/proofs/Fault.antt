@@ -21,11 +21,12 @@ use Rattle.switch.proofs.Fault.{ports-named, capacities-named, demands-named, z
 use Rattle.switch.proofs.Rows.{each-nil, each-cons, Named, named-joined, gives-named}
 use Rattle.files.specs.Fault.{FileFault, size, unsealed, kind, of-request-read, spare, WriteFault, of-request, room}
 use Rattle.files.specs.FileRows.{lengthRow, checkRow, kindRow, spareRow, roomRow}
-use Rattle.files.specs.RequestFile.{requestIn, fileNotZeroRow, requestFileRows, readVerdict, writeRows, writeVerdict}
+use Rattle.files.specs.RequestFile.{requestIn, fileNotZeroRow, requestFileRows, readVerdict}
+use Rattle.files.specs.Writing.{writeRows, writeVerdict}
 use Rattle.files.proofs.Sound.{one-candidate}
 
 -- A row of one candidate names what candidate 0 is.
-one-named : (Q : ℕ → ℕ → Type 0) (row : Row) → row .size ≡ 1
+pub one-named : (Q : ℕ → ℕ → Type 0) (row : Row) → row .size ≡ 1
     → (row .offends 0 ≡ true → Q (numberOf (row .cause)) (row .place 0)) → Named Q row
 one-named Q row alone named i h =
     one-candidate (λ j. row .offends j ≡ true → Q (numberOf (row .cause)) (row .place j)) named i (omega arith)
@@ -73,17 +74,17 @@ module _ (file : List ℕ) where
       (each-cons _ (in-file (capacityRow r) (capacities-named r))
       (each-cons _ (in-file (demandRow r) (demands-named r)) (each-cons _ not-zero-named (each-nil _))))))))
 
-module _ (r : Request) (buffer : List ℕ) where
-  in-request : (row : Row) → Named (Fault r) row → Named (WriteFault r buffer) row
+module _ (size : ℕ) (r : Request) (buffer : List ℕ) where
+  in-request : (row : Row) → Named (Fault r) row → Named (WriteFault size r buffer) row
   in-request row named i h e = of-request (named i h e)
 
-  room-named : Named (WriteFault r buffer) (roomRow 512 buffer)
+  room-named : Named (WriteFault size r buffer) (roomRow size buffer)
   room-named =
-      one-named (WriteFault r buffer) (roomRow 512 buffer) refl (λ e. room (ltb-true (length buffer) 512 e))
+      one-named (WriteFault size r buffer) (roomRow size buffer) refl (λ e. room (ltb-true (length buffer) size e))
 
-  pub write-fault : (k p : ℕ) → Gives (writeVerdict r buffer) k p → WriteFault r buffer k p
+  pub write-fault : (k p : ℕ) → Gives (writeVerdict size r buffer) k p → WriteFault size r buffer k p
   write-fault =
-      gives-named (writeRows r buffer) (WriteFault r buffer)
+      gives-named (writeRows size r buffer) (WriteFault size r buffer)
       (each-cons _ (in-request (portsRow r) (ports-named r))
       (each-cons _ (in-request (capacityRow r) (capacities-named r))
       (each-cons _ (in-request (demandRow r) (demands-named r))

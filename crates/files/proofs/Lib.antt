@@ -1,7 +1,15 @@
 -- What follows from the definitions of files.
+pub mod Filled
 pub mod Content
 pub mod Sound
 pub mod RequestFile
+pub mod PlanContent
+pub mod PlanSound
+pub mod Checked
+pub mod Checking
+pub mod PlanWritten
+pub mod PlanFault
 pub mod Saving
 pub mod Fault
 pub mod Shown
+pub mod PlanShown

@@ -38,10 +38,10 @@ read-accepted file e = rw e
 pub refused-read-is-zero : (file : List ℕ) (x : Refusal) → readVerdict file ≡ Refused x → requestRead file .request ≡ zeroRequest
 refused-read-is-zero file x e = rw e
 
--- A request's file holds the request, and is sound.
-module _ (r : Request) (w : Within r) where
-  file-word : (rest : List ℕ) (i : ℕ) → i < 127 → wordAt (requestFile r ++ rest) i ≡ requestWord r i
-  file-word rest i h = block-words (startOf 0) (requestWord r) rest i h (request-word-below r w i)
+-- A request's file holds the request, whose numbers are words.
+module _ (r : Request) (small : (i : ℕ) → requestWord r i < 4_294_967_296) where
+  pub file-word : (rest : List ℕ) (i : ℕ) → i < 127 → wordAt (requestFile r ++ rest) i ≡ requestWord r i
+  file-word rest i h = block-words (startOf 0) (requestWord r) rest i h (small i)
 
   -- a table of n numbers that stand in the words from `from` on
   table : (rest : List ℕ) (from n : ℕ) (xs : List ℕ) → from + n ≤ 127 → length xs ≡ n
@@ -63,6 +63,11 @@ module _ (r : Request) (w : Within r) where
         demands = table rest 19 64 (r .demands) (omega arith) (t .demands) (word-demand r) i;
       }
 
+-- If it is within the limits, its file is sound.
+module _ (r : Request) (w : Within r) where
+  words : (i : ℕ) → requestWord r i < 4_294_967_296
+  words = request-word-below r w
+
   sound-file : Shaped r → Sound (requestFile r)
   unfolding requestWord
   sound-file t =
@@ -70,10 +75,10 @@ module _ (r : Request) (w : Within r) where
       subst Sound alone
       (record {
         size = ap length alone ∙ length-file r;
-        passes = block-sealed (startOf 0) (requestWord r) [] (λ i h. request-word-below r w i);
-        kind = file-word [] 0 (omega arith);
-        within = subst Within (sym (request-in-file t [])) w;
-        spare = λ i h l. file-word [] i (omega arith) ∙ word-spare r i h;
+        passes = block-sealed (startOf 0) (requestWord r) [] (λ i h. words i);
+        kind = file-word r words [] 0 (omega arith);
+        within = subst Within (sym (request-in-file r words t [])) w;
+        spare = λ i h l. file-word r words [] i (omega arith) ∙ word-spare r i h;
       })
 
   pub read-accepts-written : Shaped r → readVerdict (requestFile r) ≡ Accepted
@@ -81,7 +86,7 @@ module _ (r : Request) (w : Within r) where
 
   pub read-back : Shaped r → requestRead (requestFile r) ≡ record { verdict = Accepted; request = r }
   read-back t =
-      let same : requestIn (requestFile r) ≡ r = rw (append-nil (requestFile r)) at (request-in-file t []) in
+      let same : requestIn (requestFile r) ≡ r = rw (append-nil (requestFile r)) at (request-in-file r words t []) in
       read-accepted (requestFile r) (read-accepts-written t) ∙ rw same
 
 -- An accepted file is the file of the request that is read from it.

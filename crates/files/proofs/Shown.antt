@@ -1,4 +1,4 @@
--- Everything that is to be shown of request files.
+-- Everything that is to be shown of request files and of writing.
 use Prim.Native.Nat.{ℕ}
 use mathlib.Core.Path.{_≡_, refl, sym, subst, _∙_, ap}
 use mathlib.Core.List.{List, [], _∷_}
@@ -8,8 +8,9 @@ use Rattle.blocks.proofs.Sealed.{block-bytes}
 use Rattle.switch.specs.Given.{numbersOf}
 use Rattle.switch.specs.declared.request.Request.{Request}
 use Rattle.switch.proofs.Rows.{given-exactly}
-use Rattle.files.specs.RequestFile.{Holds, requestWord, requestFile, requestFileRows, writeRows}
+use Rattle.files.specs.RequestFile.{Holds, requestWord, requestFile, requestFileRows}
 use Rattle.files.specs.Shown.{SavedAndRead, Refusals}
+use Rattle.files.specs.Writing.{writeRows}
 use Rattle.files.specs.declared.request.RequestRead.{RequestRead}
 use Rattle.files.proofs.RequestFile.{read-accepted, read-accepts-written, read-back, damage-refused, accepts-exactly-written, refused-read-is-zero}
 use Rattle.files.proofs.Saving.{saved-and-read, read-and-saved, write-accepts, room-of-accepted, refused-write-keeps, write-keeps-rest}
@@ -19,8 +20,8 @@ use Rattle.files.proofs.Sound.{holds-of-file}
 read-rows-in-order : (file : List ℕ) → numbersOf (requestFileRows file) ≡ 1 ∷ 2 ∷ 3 ∷ 4 ∷ 5 ∷ 6 ∷ 7 ∷ []
 read-rows-in-order file = refl
 
-write-rows-in-order : (r : Request) (buffer : List ℕ) → numbersOf (writeRows r buffer) ≡ 4 ∷ 5 ∷ 6 ∷ 7 ∷ 16 ∷ []
-write-rows-in-order r buffer = refl
+write-rows-in-order : (size : ℕ) (r : Request) (buffer : List ℕ) → numbersOf (writeRows size r buffer) ≡ 4 ∷ 5 ∷ 6 ∷ 7 ∷ 16 ∷ []
+write-rows-in-order size r buffer = refl
 
 pub saved-and-read-shown : SavedAndRead
 saved-and-read-shown =
@@ -44,12 +45,12 @@ pub refusals-shown : Refusals
 refusals-shown =
     record {
       read-gives = λ file. given-exactly (requestFileRows file);
-      write-gives = λ r buffer. given-exactly (writeRows r buffer);
+      write-gives = λ size r buffer. given-exactly (writeRows size r buffer);
       read-fault = read-fault;
       write-fault = write-fault;
       read-order = read-rows-in-order;
       write-order = write-rows-in-order;
-      write-accepts = λ r buffer. (room-of-accepted r buffer, λ (w, room). write-accepts r buffer w room);
+      write-accepts = λ size r buffer. (room-of-accepted size r buffer, λ (w, room). write-accepts size r buffer w room);
       refused-read = refused-read-is-zero;
       refused-write = refused-write-keeps;
       rest-kept = write-keeps-rest;

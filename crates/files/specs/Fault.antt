@@ -18,6 +18,6 @@ pub data FileFault (file : List ℕ) : ℕ → ℕ → Type 0 where
   of-request-read : {k p : ℕ} → Fault (requestIn file) k p → FileFault file k p
   spare : (i : ℕ) → 83 ≤ i → i ≤ 126 → 0 < wordAt file i → FileFault file 7 i
 
-pub data WriteFault (r : Request) (buffer : List ℕ) : ℕ → ℕ → Type 0 where
-  of-request : {k p : ℕ} → Fault r k p → WriteFault r buffer k p
-  room : length buffer < 512 → WriteFault r buffer 16 0
+pub data WriteFault (size : ℕ) (r : Request) (buffer : List ℕ) : ℕ → ℕ → Type 0 where
+  of-request : {k p : ℕ} → Fault r k p → WriteFault size r buffer k p
+  room : length buffer < size → WriteFault size r buffer 16 0

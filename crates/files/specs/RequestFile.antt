@@ -3,21 +3,21 @@
 use Prim.Native.Nat.{ℕ, _+_, _-_, _*_, _≤_, _<_}
 use mathlib.Core.Path.{_≡_}
 use mathlib.Core.Bool.{cond}
-use mathlib.Core.List.{List, [], _∷_, _++_}
+use mathlib.Core.List.{List, [], _∷_}
 use lib.Dec.{ltb}
-use lib.ListN.{drop}
 use Rattle.laws.specs.Lists.{list}
 use Rattle.blocks.specs.Words.{wordAt}
 use Rattle.blocks.specs.Check.{startOf, blockOf}
 use Rattle.switch.specs.Cells.{input, output, cellOf, inputCapacity, outputCapacity, demandOf}
-use Rattle.switch.specs.RequestRows.{portsRow, capacityRow, demandRow, notZeroRow, requestRows}
+use Rattle.switch.specs.RequestRows.{portsRow, capacityRow, demandRow, notZeroRow}
 use Rattle.switch.specs.Rows.{Row, joined, verdictOf, ifAccepted}
 use Rattle.switch.specs.Values.{zeroRequest}
 use Rattle.switch.specs.declared.port.Input.{Input}
 use Rattle.switch.specs.declared.port.Output.{Output}
 use Rattle.switch.specs.declared.request.Request.{Request}
 use Rattle.switch.specs.declared.verdict.Verdict.{Verdict}
-use Rattle.files.specs.FileRows.{lengthRow, checkRow, kindRow, spareRow, roomRow}
+use Rattle.files.specs.FileRows.{lengthRow, checkRow, kindRow, spareRow}
+use Rattle.files.specs.Writing.{written}
 use Rattle.files.specs.declared.request.RequestRead.{RequestRead}
 
 -- What the words of a request's block say, each at its place in that paragraph.
@@ -71,13 +71,6 @@ abbrev pub requestRead : List ℕ → RequestRead
 requestRead file =
     record { verdict = readVerdict file; request = ifAccepted (readVerdict file) (requestIn file) zeroRequest }
 
--- The rows that writing a request into a buffer meets: the request's own, and then the room.
-abbrev pub writeRows : Request → List ℕ → List Row
-writeRows r buffer = requestRows r ++ (roomRow 512 buffer ∷ [])
-
-abbrev pub writeVerdict : Request → List ℕ → Verdict
-writeVerdict r buffer = verdictOf (writeRows r buffer)
-
--- The buffer afterwards: the file and after it what was there; on a refusal, what was there.
-abbrev pub written : Request → List ℕ → List ℕ
-written r buffer = ifAccepted (writeVerdict r buffer) (requestFile r ++ drop 512 buffer) buffer
+-- What writing a request leaves in a buffer.
+abbrev pub requestWritten : Request → List ℕ → List ℕ
+requestWritten r buffer = written 512 (requestFile r) r buffer

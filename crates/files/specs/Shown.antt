@@ -1,5 +1,5 @@
--- What is shown of request files, in one place: with `RequestFile`, the file to read. The first demand asks for what it
--- says of refusals, and the second for saving and reading.
+-- What is shown of request files, and of writing files of any size, in one place: with `RequestFile` and `Writing`, the file
+-- to read. The first demand asks for what it says of refusals, and the second for saving and reading.
 use Prim.Native.Nat.{ℕ, _≤_, _<_}
 use mathlib.Core.Logic.{_↔_}
 use mathlib.Core.Path.{_≡_}
@@ -15,21 +15,21 @@ use Rattle.switch.specs.declared.request.Request.{Request}
 use Rattle.switch.specs.declared.verdict.Refusal.{Refusal}
 use Rattle.switch.specs.declared.verdict.Verdict.the-variants.{Accepted, Refused}
 use Rattle.files.specs.Fault.{FileFault, WriteFault}
-use Rattle.files.specs.RequestFile.{Holds, requestFile, requestFileRows, readVerdict, requestRead}
-use Rattle.files.specs.RequestFile.{writeRows, writeVerdict, written}
+use Rattle.files.specs.RequestFile.{Holds, requestFile, requestFileRows, readVerdict, requestRead, requestWritten}
+use Rattle.files.specs.Writing.{writeRows, writeVerdict, written}
 
 -- Saving and reading, for every request, every buffer and every row of bytes.
 pub record SavedAndRead : Type 0 where
   -- a request within the limits is written wherever there is room, and read back as it was
   pub saved-and-read : (r : Request) (buffer : List ℕ) → Within r → Shaped r → 512 ≤ length buffer
-      → (writeVerdict r buffer ≡ Accepted)
-      × (requestRead (take 512 (written r buffer)) ≡ record { verdict = Accepted; request = r })
+      → (writeVerdict 512 r buffer ≡ Accepted)
+      × (requestRead (take 512 (requestWritten r buffer)) ≡ record { verdict = Accepted; request = r })
   -- reading accepts the files that writing makes, and no others
   pub accepted-exactly : (file : List ℕ) → Bytes file
       → (readVerdict file ≡ Accepted) ↔ ((r : Request) × Within r × Shaped r × (file ≡ requestFile r))
   -- and what was read is written as it was
   pub read-and-saved : (file buffer : List ℕ) → Bytes file → readVerdict file ≡ Accepted → 512 ≤ length buffer
-      → written (requestRead file .request) buffer ≡ file ++ drop 512 buffer
+      → requestWritten (requestRead file .request) buffer ≡ file ++ drop 512 buffer
   -- the file of a request is a row of bytes, so that what is said here of files is said of it too
   pub bytes-written : (r : Request) → Bytes (requestFile r)
   -- the words of a file that is written, and of one that is read, stand where document 01 puts them
@@ -45,20 +45,23 @@ pub record Refusals : Type 0 where
   -- reading gives number k at place p exactly when a row of that number applies there and no row before it applies
   pub read-gives : (file : List ℕ) (k p : ℕ)
       → Gives (readVerdict file) k p ↔ ((row : Row) × Applies (requestFileRows file) row p × (numberOf (row .cause) ≡ k))
-  -- and so does writing
-  pub write-gives : (r : Request) (buffer : List ℕ) (k p : ℕ)
-      → Gives (writeVerdict r buffer) k p ↔ ((row : Row) × Applies (writeRows r buffer) row p × (numberOf (row .cause) ≡ k))
+  -- and so does writing, whatever the file's size
+  pub write-gives : (size : ℕ) (r : Request) (buffer : List ℕ) (k p : ℕ)
+      → Gives (writeVerdict size r buffer) k p ↔ ((row : Row) × Applies (writeRows size r buffer) row p × (numberOf (row .cause) ≡ k))
   -- what a refusal names is there, in the place that it names
   pub read-fault : (file : List ℕ) (k p : ℕ) → Gives (readVerdict file) k p → FileFault file k p
-  pub write-fault : (r : Request) (buffer : List ℕ) (k p : ℕ) → Gives (writeVerdict r buffer) k p → WriteFault r buffer k p
+  pub write-fault : (size : ℕ) (r : Request) (buffer : List ℕ) (k p : ℕ)
+      → Gives (writeVerdict size r buffer) k p → WriteFault size r buffer k p
   -- the rows are the table's, in its order
   pub read-order : (file : List ℕ) → numbersOf (requestFileRows file) ≡ 1 ∷ 2 ∷ 3 ∷ 4 ∷ 5 ∷ 6 ∷ 7 ∷ []
-  pub write-order : (r : Request) (buffer : List ℕ) → numbersOf (writeRows r buffer) ≡ 4 ∷ 5 ∷ 6 ∷ 7 ∷ 16 ∷ []
+  pub write-order : (size : ℕ) (r : Request) (buffer : List ℕ) → numbersOf (writeRows size r buffer) ≡ 4 ∷ 5 ∷ 6 ∷ 7 ∷ 16 ∷ []
   -- writing refuses nothing else than what is outside the limits or has no room
-  pub write-accepts : (r : Request) (buffer : List ℕ) → (writeVerdict r buffer ≡ Accepted) ↔ (Within r × (512 ≤ length buffer))
-  -- a refused reading hands back zeros, and a refused writing leaves the buffer
+  pub write-accepts : (size : ℕ) (r : Request) (buffer : List ℕ)
+      → (writeVerdict size r buffer ≡ Accepted) ↔ (Within r × (size ≤ length buffer))
+  -- a refused reading hands back zeros, and a refused writing leaves the buffer, whatever file was to be written
   pub refused-read : (file : List ℕ) (x : Refusal) → readVerdict file ≡ Refused x → requestRead file .request ≡ zeroRequest
-  pub refused-write : (r : Request) (buffer : List ℕ) (x : Refusal) → writeVerdict r buffer ≡ Refused x → written r buffer ≡ buffer
+  pub refused-write : (size : ℕ) (file : List ℕ) (r : Request) (buffer : List ℕ) (x : Refusal)
+      → writeVerdict size r buffer ≡ Refused x → written size file r buffer ≡ buffer
   -- whatever the verdict, the bytes after the file are kept
-  pub rest-kept : (r : Request) (buffer : List ℕ)
-      → (length (written r buffer) ≡ length buffer) × (drop 512 (written r buffer) ≡ drop 512 buffer)
+  pub rest-kept : (size : ℕ) (file : List ℕ) → length file ≡ size → (r : Request) (buffer : List ℕ)
+      → (length (written size file r buffer) ≡ length buffer) × (drop size (written size file r buffer) ≡ drop size buffer)

@@ -1,5 +1,5 @@
-// One number made of many plans, so that no plan can be left out and two planners can be compared. It is kept cheap, since
-// what it costs is counted with the plans: a few sums for each cell.
+// One number made of many answers, so that none can be left out and two planners can be compared. It is kept cheap, since what
+// it costs is counted with them: a few sums for each cell of a plan.
 use std::num::wrapping_add_u64;
 use std::num::wrapping_sub_u64;
 use switch::plan::Plan;
@@ -20,9 +20,13 @@ fn sum_of(plan: Plan) -> u64 {
     wrapping_sub_u64(wrapping_add_u64(sums, sums), sum)
 }
 
-// Three times the digest so far, so that plans exchanged are seen and none is forgotten.
-pub fn taken(digest: u64, plan: Plan) -> u64 {
+// Three times the digest so far, so that answers exchanged are seen and none is forgotten.
+pub fn with(digest: u64, answer: u64) -> u64 {
     let twice = wrapping_add_u64(digest, digest);
     let thrice = wrapping_add_u64(twice, digest);
-    wrapping_add_u64(thrice, sum_of(plan))
+    wrapping_add_u64(thrice, answer)
+}
+
+pub fn taken(digest: u64, plan: Plan) -> u64 {
+    with(digest, sum_of(plan))
 }

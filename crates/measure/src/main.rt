@@ -1,7 +1,9 @@
-// Plans the requests on standard input over and over, and prints one number made of all the plans: bench/run counts the
-// instructions of it. The input is a word with the number of rounds, and then request files one after the other.
+// Plans the requests on standard input over and over, or checks their plan files, and prints one number made of all the
+// answers: bench/run counts the instructions of it. The input is a word and then request files one after the other. The lower
+// half of the word is the number of rounds, the upper half says what is measured.
 mod digest;
 mod rounds;
+mod saved;
 
 fn main() {
     let mut buffer = io::large_buffer();

@@ -2,9 +2,9 @@
 use Prim.Native.Nat.{ℕ, _/_, _≤_, _<_}
 use mathlib.Core.Path.{_≡_, refl, sym, _∙_, subst}
 use mathlib.Core.List.{List}
-use native.Mathlib.Nat.{div-le-self, le-trans, mul-le-mul}
+use native.Mathlib.Nat.{div-le-self, le-trans}
 use native.Mathlib.Omega.{arith}
-use lib.ListN.{length, getD, length-map}
+use lib.ListN.{length, length-map}
 use Rattle.fairness.specs.Divisor.{gcdOf, GcdOf}
 use Rattle.fairness.specs.Fairness as General
 use Rattle.fairness.specs.Filling.{over}
@@ -30,7 +30,7 @@ use Rattle.shares.specs.Reduced.{reducedBase, reducedNumerators}
 use Rattle.shares.proofs.Bottlenecks.{reasons-right}
 use Rattle.planner.specs.Sizes.{mostBase}
 use Rattle.planner.specs.Planned.{planned, Promised, portsOf}
-use Rattle.planner.proofs.Ports.{fair-ports, demand-small}
+use Rattle.planner.proofs.Ports.{fair-ports}
 
 module _ (r : Request) (within : Within r) (b : ℕ) (xs : List ℕ) (small : b ≤ mostBase) (long : length xs ≡ 64)
     (fair : General.Fair (portsOf r) (over b xs)) where
@@ -48,14 +48,6 @@ module _ (r : Request) (within : Within r) (b : ℕ) (xs : List ℕ) (small : b 
   least : reducedBase b xs ≤ mostBase
   least = le-trans (div-le-self b (gcdOf b xs)) small
 
-  bounded : (c : ℕ) → c < 64 → getD (reducedNumerators b xs) c 0 ≤ 1_152_921_504_606_846_976
-  bounded c hc =
-      omega (
-        arith,
-        reduced-fair .allowed .bounded .atMost c hc,
-        mul-le-mul (demand-small r within c hc) least,
-      )
-
   right : Right r (planFrom r (reducedBase b xs) (reducedNumerators b xs))
   right =
       right-planFrom r within (reducedBase b xs) (reducedNumerators b xs) reduced-fair
@@ -67,7 +59,7 @@ module _ (r : Request) (within : Within r) (b : ℕ) (xs : List ℕ) (small : b 
       ≡ planFrom r (reducedBase b xs) (reducedNumerators b xs)
   unfolding planFrom
   with-reasons reasons e =
-      let same = e ∙ reasons-right r within (reducedBase b xs) (reducedNumerators b xs) (omega (arith, least)) bounded in
+      let same = e ∙ reasons-right r within (reducedBase b xs) (reducedNumerators b xs) (omega (arith, least)) in
       λ i. record { base = reducedBase b xs; numerators = reducedNumerators b xs; reasons = same i }
 
   pub plan-of-fair : (reasons : List ℕ)

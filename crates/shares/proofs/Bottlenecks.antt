@@ -1,62 +1,94 @@
--- For numbers that are small enough the tests of this crate are those of a switch: no sum and no product is capped.
+-- For a request within the limits and a base that is small enough the tests of this crate are document 01's, whatever the
+-- numerators are.
 use Prim.Native.Nat.{ℕ, _*_, _≤_, _<_}
 use mathlib.Core.Path.{_≡_, sym, _∙_, ap}
-use mathlib.Core.Bool.{Bool, true, false, cond, _&&_}
+use mathlib.Core.Bool.{Bool, true, false, cond}
 use mathlib.Core.List.{List}
 use mathlib.Core.Logic.{_⊎_, _↔_, inl, inr}
-use native.Mathlib.Nat.{mul-le-mul, mul-le-mul-right, le-trans}
+use native.Mathlib.Nat.{mul-le-mul}
 use native.Mathlib.Omega.{arith}
 use lib.Dec.{eqb, leb, ltb}
 use lib.ListN.{getD}
-use borrow.Author.Tests.{eq-eqb, eqb-true, lt-ltb, ltb-true, le-leb, leb-true}
 use Rattle.laws.specs.Lists.{list}
 use Rattle.laws.proofs.Lists.{list-same}
-use Rattle.laws.proofs.Search.{true-or-false, both-true, true-of-both}
+use Rattle.laws.proofs.Search.{true-or-false}
 use Rattle.switch.specs.Cells.{input, output, cellOf, inputOf, outputOf, usedCell, inputCapacity, outputCapacity, demandOf}
 use Rattle.switch.specs.Within.{Within}
-use Rattle.switch.specs.Rates.{sumTo, inputTotal, outputTotal}
+use Rattle.switch.specs.Rates.{flow, inputTotal, outputTotal}
 use Rattle.switch.specs.Fairness.{Used, InputBottleneck, OutputBottleneck}
-use Rattle.switch.specs.Reason.{inputHolds, flowReason, reasonOf}
+use Rattle.switch.specs.Reason.{every, inputHolds, outputHolds, flowReason, reasonOf}
 use Rattle.switch.specs.declared.port.Input.{Input}
 use Rattle.switch.specs.declared.port.Output.{Output}
 use Rattle.switch.specs.declared.request.Request.{Request}
 use Rattle.switch.proofs.Cells.{cell-of-ports, below-of-used, usedCell-of-ports}
 use Rattle.switch.proofs.Sharing.{below-eight}
-use Rattle.switch.proofs.Reason.{bottleneck-of-holds, holds-of-bottleneck}
-use Rattle.shares.specs.Saturated.{capped, ports}
-use Rattle.shares.specs.Port.{mostTo, inputPort, outputPort}
+use Rattle.switch.proofs.Reason.{bottleneck-of-holds, holds-of-bottleneck, output-bottleneck-of-holds, holds-of-output-bottleneck}
+use Rattle.switch.proofs.Small.{input-small, output-small}
+use Rattle.shares.specs.Saturated.{capped, largest, ports}
+use Rattle.shares.specs.Port.{inputPort, outputPort}
 use Rattle.shares.specs.Rates.{ratesOver}
 use Rattle.shares.specs.Reason.{holds, reasonFrom, reasonAt, reasonsAt}
 use Rattle.shares.specs.declared.port.Port.{Port}
-use Rattle.shares.proofs.Ports.{sum-bound, le-most, most-le, leb-most}
+use Rattle.shares.proofs.Ports.{leb-most}
+use Rattle.shares.proofs.Saturated.{ltb-capped, eqb-capped}
 
 -- What two tests make of a flow: 0 if it has its demand, else 1 if its input holds it back, and else 2.
 reason-of-tests : (port : Port) (capacity d b x : ℕ) {met held : Bool} → eqb x (capped (d * b)) ≡ met
     → holds port capacity d b x ≡ held → reasonFrom port capacity d b x ≡ cond met 0 (cond held 1 2)
 reason-of-tests port capacity d b x e h = rw (e, h)
 
--- A base of at most 2^39, and numerators of at most 2^60: eight of these fit, and so does a capacity or a demand of at
--- most 2^24 times the base.
-module _ (r : Request) (w : Within r) (b : ℕ) (xs : List ℕ) (small : b ≤ 549_755_813_888)
-    (each : (c : ℕ) → c < 64 → getD xs c 0 ≤ 1_152_921_504_606_846_976) where
-  product-exact : (d : ℕ) → d ≤ 16_777_216 → capped (d * b) ≡ d * b
-  product-exact d h = omega (arith, mul-le-mul h small)
+-- A base of at most 2^39: a capacity or a demand of at most 2^24 times the base fits, and so a sum of numerators that was
+-- stopped is more than it, however large they are.
+module _ (r : Request) (w : Within r) (b : ℕ) (xs : List ℕ) (small : b ≤ 549_755_813_888) where
+  pub product-below : (d : ℕ) → d ≤ 16_777_216 → d * b < largest
+  product-below d h = omega (arith, mul-le-mul h small)
 
-  sum-exact : (n : ℕ) (f : ℕ → ℕ) → n ≤ 8 → ((i : ℕ) → i < n → f i ≤ 1_152_921_504_606_846_976)
-      → capped (sumTo (ports n) f) ≡ sumTo n f
-  sum-exact n f few h =
-      let all : ports n ≡ n = omega arith in
-      rw all (omega (arith, sum-bound n f 1_152_921_504_606_846_976 h, mul-le-mul-right 1_152_921_504_606_846_976 few))
+  pub product-exact : (d : ℕ) → d ≤ 16_777_216 → capped (d * b) ≡ d * b
+  product-exact d h = omega (arith, product-below d h)
 
-  pub input-sum-is-total : (u : Input) → u .0 < 8 → inputPort (r .n) xs u .sum ≡ inputTotal r (ratesOver b xs) u
-  input-sum-is-total u low =
-      sum-exact (r .n) (λ k. getD xs (cellOf u (output k)) 0) (w .outputs .1)
-      (λ k h. each (cellOf u (output k)) (omega (arith, w .outputs .1)))
+  all-outputs : ports (r .n) ≡ r .n
+  all-outputs = omega (arith, w .outputs .1)
 
-  pub output-sum-is-total : (v : Output) → v .0 < 8 → outputPort (r .m) xs v .sum ≡ outputTotal r (ratesOver b xs) v
-  output-sum-is-total v low =
-      sum-exact (r .m) (λ k. getD xs (cellOf (input k) v) 0) (w .inputs .1)
-      (λ k h. each (cellOf (input k) v) (omega (arith, w .inputs .1)))
+  all-inputs : ports (r .m) ≡ r .m
+  all-inputs = omega (arith, w .inputs .1)
+
+  -- What a port's sum says when it is held against its capacity.
+  pub input-over-exact : (u : Input) → u .0 < 8
+      → ltb (capped (inputCapacity r u * b)) (inputPort (r .n) xs u .sum)
+      ≡ ltb (inputCapacity r u * b) (inputTotal r (ratesOver b xs) u)
+  input-over-exact u low =
+      let k = input-small r w u low in
+      rw (product-exact (inputCapacity r u) k, all-outputs) (ltb-capped _ _ (product-below (inputCapacity r u) k))
+
+  pub output-over-exact : (v : Output) → v .0 < 8
+      → ltb (capped (outputCapacity r v * b)) (outputPort (r .m) xs v .sum)
+      ≡ ltb (outputCapacity r v * b) (outputTotal r (ratesOver b xs) v)
+  output-over-exact v low =
+      let k = output-small r w v low in
+      rw (product-exact (outputCapacity r v) k, all-inputs) (ltb-capped _ _ (product-below (outputCapacity r v) k))
+
+  pub input-full-exact : (u : Input) → u .0 < 8
+      → eqb (inputPort (r .n) xs u .sum) (capped (inputCapacity r u * b))
+      ≡ eqb (inputTotal r (ratesOver b xs) u) (inputCapacity r u * b)
+  input-full-exact u low =
+      let k = input-small r w u low in
+      rw (product-exact (inputCapacity r u) k, all-outputs) (eqb-capped _ _ (product-below (inputCapacity r u) k))
+
+  pub output-full-exact : (v : Output) → v .0 < 8
+      → eqb (outputPort (r .m) xs v .sum) (capped (outputCapacity r v * b))
+      ≡ eqb (outputTotal r (ratesOver b xs) v) (outputCapacity r v * b)
+  output-full-exact v low =
+      let k = output-small r w v low in
+      rw (product-exact (outputCapacity r v) k, all-inputs) (eqb-capped _ _ (product-below (outputCapacity r v) k))
+
+  -- One comparison with a port's largest numerator stands for one with each.
+  pub input-most-exact : (u : Input) (x : ℕ)
+      → leb (inputPort (r .n) xs u .most) x ≡ every (r .n) (λ k. leb (flow (ratesOver b xs) u (output k)) x)
+  input-most-exact u x = rw all-outputs (leb-most (r .n) (λ k. getD xs (cellOf u (output k)) 0) x)
+
+  pub output-most-exact : (v : Output) (x : ℕ)
+      → leb (outputPort (r .m) xs v .most) x ≡ every (r .m) (λ k. leb (flow (ratesOver b xs) (input k) v) x)
+  output-most-exact v x = rw all-inputs (leb-most (r .m) (λ k. getD xs (cellOf (input k) v) 0) x)
 
   module _ (u : Input) (v : Output) (is : Used r u v) where
     low : (u .0 < 8) × (v .0 < 8)
@@ -65,18 +97,16 @@ module _ (r : Request) (w : Within r) (b : ℕ) (xs : List ℕ) (small : b ≤ 5
     demand-exact : capped (demandOf r (cellOf u v) * b) ≡ demandOf r (cellOf u v) * b
     demand-exact = product-exact (demandOf r (cellOf u v)) (w .demand u v (is .input) (is .output))
 
-    -- The test of the input is the one that reasons are defined by, and is true exactly when the input is a bottleneck.
+    -- The tests of the ports are document 01's, and are true exactly when the port is a bottleneck.
     pub input-holds-as-defined : holds (inputPort (r .n) xs u) (inputCapacity r u) (demandOf r (cellOf u v)) b (getD xs (cellOf u v) 0)
         ≡ inputHolds r (ratesOver b xs) u v
     input-holds-as-defined =
-        let all : ports (r .n) ≡ r .n = omega (arith, w .outputs .1) in
-        rw (
-          demand-exact,
-          input-sum-is-total u (low .0),
-          product-exact (inputCapacity r u) (w .input-capacity u (is .input)),
-          all,
-          leb-most (r .n) (λ k. getD xs (cellOf u (output k)) 0) (getD xs (cellOf u v) 0),
-        )
+        rw (demand-exact, input-full-exact u (low .0), input-most-exact u (getD xs (cellOf u v) 0))
+
+    pub output-holds-as-defined : holds (outputPort (r .m) xs v) (outputCapacity r v) (demandOf r (cellOf u v)) b (getD xs (cellOf u v) 0)
+        ≡ outputHolds r (ratesOver b xs) u v
+    output-holds-as-defined =
+        rw (demand-exact, output-full-exact v (low .1), output-most-exact v (getD xs (cellOf u v) 0))
 
     pub input-holds-exactly : (holds (inputPort (r .n) xs u) (inputCapacity r u) (demandOf r (cellOf u v)) b (getD xs (cellOf u v) 0) ≡ true)
         ↔ InputBottleneck r (ratesOver b xs) u v
@@ -85,41 +115,11 @@ module _ (r : Request) (w : Within r) (b : ℕ) (xs : List ℕ) (small : b ≤ 5
       λ neck. input-holds-as-defined ∙ holds-of-bottleneck r (ratesOver b xs) u v neck,
     )
 
-    column : ℕ → ℕ
-    column k = getD xs (cellOf (input k) v) 0
-
-    output-holds-uncapped : holds (outputPort (r .m) xs v) (outputCapacity r v) (demandOf r (cellOf u v)) b (getD xs (cellOf u v) 0)
-        ≡ (ltb (getD xs (cellOf u v) 0) (demandOf r (cellOf u v) * b)
-        && eqb (outputTotal r (ratesOver b xs) v) (outputCapacity r v * b)
-        && leb (mostTo (r .m) column) (getD xs (cellOf u v) 0))
-    unfolding column
-    output-holds-uncapped =
-        let all : ports (r .m) ≡ r .m = omega (arith, w .inputs .1) in
-        rw (
-          demand-exact,
-          output-sum-is-total v (low .1),
-          product-exact (outputCapacity r v) (w .output-capacity v (is .output)),
-          all,
-        )
-
-    -- No reason is defined by the output's test, and it too is true exactly when its port is a bottleneck.
     pub output-holds-exactly : (holds (outputPort (r .m) xs v) (outputCapacity r v) (demandOf r (cellOf u v)) b (getD xs (cellOf u v) 0) ≡ true)
         ↔ OutputBottleneck r (ratesOver b xs) u v
-    unfolding column
     output-holds-exactly = (
-      λ e.
-          let first = both-true (ltb (getD xs (cellOf u v) 0) (demandOf r (cellOf u v) * b)
-          && eqb (outputTotal r (ratesOver b xs) v) (outputCapacity r v * b)) _ (sym output-holds-uncapped ∙ e) in
-          let second = both-true (ltb (getD xs (cellOf u v) 0) (demandOf r (cellOf u v) * b)) _ (first .0) in
-          record {
-            below = ltb-true _ _ (second .0);
-            full = eqb-true _ _ (second .1);
-            greatest = λ u' h. le-trans (le-most (r .m) column (u' .0) h) (leb-true _ _ (first .1));
-          },
-      λ neck.
-          output-holds-uncapped
-          ∙ true-of-both (true-of-both (lt-ltb _ _ (neck .below)) (eq-eqb _ _ (neck .full)))
-          (le-leb _ _ (most-le (r .m) column (getD xs (cellOf u v) 0) (λ k h. neck .greatest (input k) h))),
+      λ e. output-bottleneck-of-holds r (ratesOver b xs) u v (sym output-holds-as-defined ∙ e),
+      λ neck. output-holds-as-defined ∙ holds-of-output-bottleneck r (ratesOver b xs) u v neck,
     )
 
     flow-reason-as-defined : reasonFrom (inputPort (r .n) xs u) (inputCapacity r u) (demandOf r (cellOf u v)) b (getD xs (cellOf u v) 0)

@@ -1,14 +1,13 @@
--- Sums and largest numbers: taken one flow after another, and what bounds them.
-use Prim.Native.Nat.{ℕ, zero, suc, _+_, _*_, _≤_, _<_, max}
+-- Sums and largest numbers: taken one flow after another, and held against a number.
+use Prim.Native.Nat.{ℕ, zero, suc, _+_, _≤_, _<_, max}
 use mathlib.Core.Path.{_≡_, refl, sym, _∙_, ap, ap₂}
 use mathlib.Core.Bool.{_&&_, and-false}
 use mathlib.Core.Logic.{_⊎_, inl, inr}
-use native.Mathlib.Nat.{not-suc-le-zero}
 use native.Mathlib.Numerals.{add-one}
 use native.Mathlib.Omega.{arith}
 use lib.Dec.{leb}
 use borrow.Author.Tests.{le-leb, lt-leb}
-use Rattle.laws.proofs.Search.{le-or-lt, below-suc, true-of-both}
+use Rattle.laws.proofs.Search.{le-or-lt, true-of-both}
 use Rattle.switch.specs.Rates.{sumTo}
 use Rattle.switch.specs.Reason.{every}
 use Rattle.shares.specs.Saturated.{capped, ports}
@@ -41,23 +40,6 @@ walked-all n k f all so-far =
     let sum = rw all at (so-far .0) in
     let most = rw all at (so-far .1) in
     λ i. record { sum = sum i; most = most i }
-
-pub sum-bound : (n : ℕ) (f : ℕ → ℕ) (x : ℕ) → ((i : ℕ) → i < n → f i ≤ x) → sumTo n f ≤ n * x
-unfolding sumTo
-sum-bound zero f x h = omega arith
-sum-bound (suc n) f x h = omega (arith, sum-bound n f x (λ i l. h i (omega arith)), h n (omega arith))
-
--- The largest number is at least each, and at most what each is at most.
-pub le-most : (n : ℕ) (f : ℕ → ℕ) (i : ℕ) → i < n → f i ≤ mostTo n f
-unfolding mostTo
-le-most zero f i h = absurd (not-suc-le-zero h)
-le-most (suc n) f i h =
-    below-suc (λ j. f j ≤ mostTo (suc n) f) n (λ j l. omega (arith, le-most n f j l)) (omega arith) i h
-
-pub most-le : (n : ℕ) (f : ℕ → ℕ) (x : ℕ) → ((i : ℕ) → i < n → f i ≤ x) → mostTo n f ≤ x
-unfolding mostTo
-most-le zero f x h = omega arith
-most-le (suc n) f x h = omega (arith, most-le n f x (λ i l. h i (omega arith)), h n (omega arith))
 
 leb-max : (a b x : ℕ) → leb (max a b) x ≡ (leb b x && leb a x)
 leb-max a b x = go (le-or-lt a x) (le-or-lt b x)

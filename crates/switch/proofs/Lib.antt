@@ -9,10 +9,12 @@ pub mod Within
 pub mod Fault
 pub mod Grid
 pub mod Sharing
+pub mod Small
 pub mod Agree
 pub mod Fair
 pub mod Reason
 pub mod Planned
+pub mod SameRates
 pub mod Shown
 pub mod Drawn
 pub mod Values

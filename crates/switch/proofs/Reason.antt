@@ -8,11 +8,11 @@ use native.Mathlib.Omega.{arith}
 use lib.Dec.{eqb, leb, ltb}
 use borrow.Author.Tests.{eq-eqb, ne-eqb, eqb-true, lt-ltb, ltb-true, le-leb, leb-true}
 use Rattle.laws.proofs.Search.{true-or-false, true-not-false, both-true, true-of-both, below-suc}
-use Rattle.switch.specs.Cells.{output, cellOf, inputCapacity, demandOf}
+use Rattle.switch.specs.Cells.{input, output, cellOf, inputCapacity, outputCapacity, demandOf}
 use Rattle.switch.specs.Within.{Within}
-use Rattle.switch.specs.Rates.{Rates, flow, inputTotal}
+use Rattle.switch.specs.Rates.{Rates, flow, inputTotal, outputTotal}
 use Rattle.switch.specs.Fairness.{Used, Fair, InputBottleneck, OutputBottleneck}
-use Rattle.switch.specs.Reason.{every, atDemand, inputHolds, flowReason}
+use Rattle.switch.specs.Reason.{every, atDemand, inputHolds, outputHolds, flowReason}
 use Rattle.switch.specs.declared.port.Input.{Input}
 use Rattle.switch.specs.declared.port.Output.{Output}
 use Rattle.switch.specs.declared.request.Request.{Request}
@@ -47,6 +47,24 @@ module _ (r : Request) (a : Rates) (u : Input) (v : Output) where
   holds-of-bottleneck neck =
       true-of-both (true-of-both (lt-ltb _ _ (neck .below)) (eq-eqb _ _ (neck .full)))
       (every-of-all (r .n) _ (λ k h. le-leb _ _ (neck .greatest (output k) h)))
+
+  -- the output's test is the definition too
+  pub output-bottleneck-of-holds : outputHolds r a u v ≡ true → OutputBottleneck r a u v
+  output-bottleneck-of-holds e =
+      let first = both-true (ltb (flow a u v) (demandOf r (cellOf u v) * a .base)
+      && eqb (outputTotal r a v) (outputCapacity r v * a .base)) _ e in
+      let second = both-true (ltb (flow a u v) (demandOf r (cellOf u v) * a .base)) _ (first .0) in
+      record {
+        below = ltb-true _ _ (second .0);
+        full = eqb-true _ _ (second .1);
+        greatest = λ u' h.
+            leb-true _ _ (all-of-every (r .m) (λ k. leb (flow a (input k) v) (flow a u v)) (first .1) (u' .0) h);
+      }
+
+  pub holds-of-output-bottleneck : OutputBottleneck r a u v → outputHolds r a u v ≡ true
+  holds-of-output-bottleneck neck =
+      true-of-both (true-of-both (lt-ltb _ _ (neck .below)) (eq-eqb _ _ (neck .full)))
+      (every-of-all (r .m) _ (λ k h. le-leb _ _ (neck .greatest (input k) h)))
 
   -- which reason a flow has:
   pub reason-at-demand : flow a u v ≡ demandOf r (cellOf u v) * a .base → flowReason r a u v ≡ 0

@@ -250,6 +250,22 @@ accepted-of-silent rows all = ap verdictOf (sym (append-nil rows)) ∙ verdict-p
 pub accepted-exactly : (rows : List Row) → (verdictOf rows ≡ Accepted) ↔ AllSilent rows
 accepted-exactly rows = (silent-of-accepted rows, accepted-of-silent rows)
 
+-- The same of one row.
+alone : (row : Row) → verdictOf (row ∷ []) ≡ rowVerdict row
+unfolding verdictOf
+alone row = or-else-accepted (rowVerdict row)
+
+pub row-accepted-exactly : (row : Row) → (rowVerdict row ≡ Accepted) ↔ Silent row
+row-accepted-exactly row = (
+  λ e. silent-here (silent-of-accepted (row ∷ []) (alone row ∙ e)),
+  λ s. sym (alone row) ∙ accepted-of-silent (row ∷ []) (silent-cons s silent-nil),
+)
+
+-- What comes second is heard only where the first accepts.
+pub or-else-under : (v : Verdict) {x y : Verdict} → (v ≡ Accepted → x ≡ y) → orElse v x ≡ orElse v y
+or-else-under Accepted same = same refl
+or-else-under (Refused x) same = refl
+
 -- Number k at place p is given exactly when a row of that number applies there.
 pub given-exactly : (rows : List Row) (k p : ℕ)
     → Gives (verdictOf rows) k p ↔ ((row : Row) × Applies rows row p × (numberOf (row .cause) ≡ k))

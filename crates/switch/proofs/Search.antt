@@ -8,6 +8,7 @@ use borrow.Author.Count.{below-none, below-more}
 use Rattle.laws.proofs.Search.{le-or-lt}
 use Rattle.switch.specs.Given.{Silent, First}
 use Rattle.switch.specs.Rows.{Row, at, nothing, firstFrom, firstOf, refusal, rowVerdict}
+use Rattle.switch.specs.declared.verdict.Cause.{Cause}
 use Rattle.switch.specs.declared.verdict.Verdict.the-variants.{Accepted}
 
 module _ (test : ℕ → Bool) where
@@ -100,3 +101,29 @@ searched row (suc n) h = go (searched row n (omega arith)) (row .offends n) refl
 
 pub silent-or-first : (row : Row) → Silent row ⊎ ((i : ℕ) × First row i)
 silent-or-first row = searched row (row .size) (omega arith)
+
+-- Rows that differ in nothing but their tests say the same if the tests agree on every candidate.
+pub same-row : (cause : Cause) (size : ℕ) (place : ℕ → ℕ) (f g : ℕ → Bool) → ((i : ℕ) → i < size → f i ≡ g i)
+    → rowVerdict (record { cause = cause; size = size; offends = f; place = place })
+    ≡ rowVerdict (record { cause = cause; size = size; offends = g; place = place })
+unfolding rowVerdict
+same-row cause size place f g same = go (silent-or-first other)
+  where
+    one : Row
+    one = record { cause = cause; size = size; offends = f; place = place }
+
+    other : Row
+    other = record { cause = cause; size = size; offends = g; place = place }
+
+    go : Silent other ⊎ ((i : ℕ) × First other i) → rowVerdict one ≡ rowVerdict other
+    go (inl s) = rw (nothing-of-silent one (λ i h. same i h ∙ s i h), nothing-of-silent other s)
+    go (inr (i, a)) =
+        rw (
+          at-of-first one
+              (record {
+                below = a .below;
+                here = same i (a .below) ∙ a .here;
+                earlier = λ k l. same k (let h = a .below in omega arith) ∙ a .earlier k l;
+              }),
+          at-of-first other a,
+        )

@@ -109,6 +109,15 @@ module _ (r : Request) (w : Within r) where
   unfolding sumTo
   none n f h = sym (ap (λ k. sumTo k f) (zero-add n)) ∙ sumTo-more 0 n f (λ i l b. h i (omega arith))
 
+  -- Nothing passes an unused port.
+  pub unused-input-total : (a : Rates) → Blank r a → (u : Input) → u .0 < 8 → r .m ≤ u .0 → inputTotal r a u ≡ 0
+  unused-input-total a blank u h past =
+      none (r .n) (λ j. flow a u (output j)) (λ j l. blank .unused u (output j) h (omega (arith, w .outputs .1)) (inl past))
+
+  pub unused-output-total : (a : Rates) → Blank r a → (v : Output) → v .0 < 8 → r .n ≤ v .0 → outputTotal r a v ≡ 0
+  unused-output-total a blank v h past =
+      none (r .m) (λ j. flow a (input j) v) (λ j l. blank .unused (input j) v (omega (arith, w .inputs .1)) h (inr past))
+
   pub allowed-of-allocation : (a : Rates) → Blank r a → Allocation r a → General.Allowed (problemOf r) (general a)
   allowed-of-allocation a blank ok =
       record {
@@ -131,20 +140,12 @@ module _ (r : Request) (w : Within r) where
     where
       input-room : (u : Input) → u .0 < 8 → (r .m ≤ u .0) ⊎ (u .0 < r .m) → inputTotal r a u ≤ inputCapacity r u * a .base
       input-room u h (inl past) =
-          omega (
-            arith,
-            none (r .n) (λ j. flow a u (output j))
-                (λ j l. blank .unused u (output j) h (omega (arith, w .outputs .1)) (inl past)),
-          )
+          omega (arith, unused-input-total a blank u h past)
       input-room u h (inr l) = ok .feasible .inputs u l
 
       output-room : (v : Output) → v .0 < 8 → (r .n ≤ v .0) ⊎ (v .0 < r .n) → outputTotal r a v ≤ outputCapacity r v * a .base
       output-room v h (inl past) =
-          omega (
-            arith,
-            none (r .m) (λ j. flow a (input j) v)
-                (λ j l. blank .unused (input j) v (omega (arith, w .inputs .1)) h (inr past)),
-          )
+          omega (arith, unused-output-total a blank v h past)
       output-room v h (inr l) = ok .feasible .outputs v l
 
   -- Bottlenecks are the same.

@@ -2,8 +2,8 @@
 use Prim.Native.Nat.{ℕ, zero, suc, _*_}
 use mathlib.Core.Bool.{Bool, true, cond, _&&_}
 use lib.Dec.{eqb, leb, ltb}
-use Rattle.switch.specs.Cells.{cellOf, inputOf, outputOf, output, usedCell, inputCapacity, demandOf}
-use Rattle.switch.specs.Rates.{Rates, flow, inputTotal}
+use Rattle.switch.specs.Cells.{cellOf, inputOf, outputOf, input, output, usedCell, inputCapacity, outputCapacity, demandOf}
+use Rattle.switch.specs.Rates.{Rates, flow, inputTotal, outputTotal}
 use Rattle.switch.specs.declared.port.Input.{Input}
 use Rattle.switch.specs.declared.port.Output.{Output}
 use Rattle.switch.specs.declared.request.Request.{Request}
@@ -23,6 +23,13 @@ inputHolds r a u v =
     ltb (flow a u v) (demandOf r (cellOf u v) * a .base)
     && eqb (inputTotal r a u) (inputCapacity r u * a .base)
     && every (r .n) (λ k. leb (flow a u (output k)) (flow a u v))
+
+-- The output is one: those of `OutputBottleneck`.
+abbrev pub outputHolds : Request → Rates → Input → Output → Bool
+outputHolds r a u v =
+    ltb (flow a u v) (demandOf r (cellOf u v) * a .base)
+    && eqb (outputTotal r a v) (outputCapacity r v * a .base)
+    && every (r .m) (λ k. leb (flow a (input k) v) (flow a u v))
 
 -- 0 for a flow that has its demand, else 1 if its input holds it back, and else 2: then its output does.
 abbrev pub flowReason : Request → Rates → Input → Output → ℕ

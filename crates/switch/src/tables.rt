@@ -1,11 +1,13 @@
 // Walks over a request's tables: each looks for the first number above a limit that only used, or only unused, ports or
 // cells have. They serve rows 5 to 7 of the refusal table.
-ghost use Prim.Native.Nat.{_<_, min};
+ghost use Prim.Native.Nat.{min};
 ghost use mathlib.Core.Path.{_≡_};
 ghost use mathlib.Core.Bool.{cond};
 ghost use Rattle.switch.specs.Rows.{rowVerdict};
 ghost use Rattle.switch.specs.RequestRows.{outside};
-ghost use Rattle.switch.specs.Tables.{usedEnd, FirstAbove, portsOver, cellsOver};
+ghost use Rattle.switch.specs.Tables.{FirstAbove, portsOver, cellsOver};
+use crate::port::Input;
+use crate::port::used_end;
 use crate::request::Request;
 use crate::verdict::Cause;
 use crate::verdict::Verdict;
@@ -22,17 +24,6 @@ fn lesser(a: u64, b: u64) -> u64
     ensures { λ r. ⌜ r ≡ min a b ⌝ }
 {
     if a < b { a } else { b }
-}
-
-// The end of an input's used cells, which are the first of its eight.
-fn used_end(m: u32, n: u32, u: u64) -> u64
-    requires { ⌜ u < 8 ⌝ }
-    ensures { λ r. ⌜ r ≡ usedEnd m n u ⌝ }
-{
-    if m as u64 <= u {
-        return 8 * u;
-    }
-    8 * u + lesser(n as u64, 8)
 }
 
 // The first of the entries from `first` on and before `last` that is more than `most`, or 64. Past its end a table counts as
@@ -93,8 +84,9 @@ pub fn cells_over(
     ensures { λ r. ⌜ r ≡ rowVerdict (cellsOver cause from used m n most (now (table .entry))) ⌝ }
 {
     for u in 0..8 {
-        let end = used_end(m, n, u);
-        let c = first_over(used, most, 8 * u, end, 8 * u + 8, table);
+        let first = 8 * u as u64;
+        let end = used_end(m, n, Input(u));
+        let c = first_over(used, most, first, end, first + 8, table);
         if c < 64 {
             return refused(cause, from as u64 + c);
         }

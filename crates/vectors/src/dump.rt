@@ -1,5 +1,6 @@
-// Bytes in sight: the checks of blocks without content, and the drawn request file.
+// Bytes in sight: the checks of blocks without content, and the drawn request file with its plan file.
 use crate::example::file;
+use crate::example::plan_file as written;
 use crate::show::text;
 use blocks::check::check;
 use blocks::check::start_of;
@@ -32,10 +33,18 @@ fn row(bytes: &[u8], at: u32) {
     text(b"\n");
 }
 
-pub fn request_file() {
-    let bytes = file();
-    text(b"the file as drawn:\n");
-    for i in 0..32 {
-        row(&bytes, 16 * i);
+fn rows(bytes: &[u8], count: u8) {
+    for i in 0..count {
+        row(bytes, 16 * (i as u32));
     }
+}
+
+pub fn request_file() {
+    text(b"the file as drawn:\n");
+    rows(&file(), 32);
+}
+
+pub fn plan_file() {
+    text(b"the plan file as drawn:\n");
+    rows(&written(), 96);
 }

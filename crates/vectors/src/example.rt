@@ -1,4 +1,5 @@
-// The request of the worked listing, as a value and as a file.
+// The request of the worked listing, as a value, as a file and with its plan.
+use files::plan::write_plan;
 use files::request::write_request;
 use switch::request::Request;
 
@@ -27,5 +28,12 @@ pub fn request() -> Request {
 pub fn file() -> [u8; 512] {
     let mut bytes = [0u8; 512];
     write_request(request(), &mut bytes);
+    bytes
+}
+
+// Its plan has base 2, numerators 7, 7 / 4, 2 and reasons 1, 1 / 0, 0.
+pub fn plan_file() -> [u8; 1536] {
+    let mut bytes = [0u8; 1536];
+    write_plan(request(), &mut bytes);
     bytes
 }

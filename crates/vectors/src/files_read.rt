@@ -1,5 +1,6 @@
 // Request files as they are read: rows 1 to 7.
 use crate::example::file;
+use crate::sealed::change;
 use crate::show::verdict;
 use blocks::check::seal;
 use blocks::check::start_of;
@@ -22,14 +23,13 @@ fn read(tried: &[u8], bytes: &[u8]) {
 }
 
 // The drawn file with word `i` replaced by `w` and the block sealed again.
-fn sealed_with(i: u64, w: u32) -> [u8; 512] {
+fn sealed_with(i: u32, w: u32) -> [u8; 512] {
     let mut bytes = file();
-    put(&mut bytes, i, w);
-    seal(start_of(0), &mut bytes, 0);
+    change(&mut bytes, 0, i, w);
     bytes
 }
 
-fn read_with(tried: &[u8], i: u64, w: u32) {
+fn read_with(tried: &[u8], i: u32, w: u32) {
     read(tried, &sealed_with(i, w));
 }
 
@@ -62,8 +62,7 @@ fn numbers() {
         16_777_217,
     );
     let mut bytes = sealed_with(27, 16_777_217);
-    put(&mut bytes, 11, 16_777_217);
-    seal(start_of(0), &mut bytes, 0);
+    change(&mut bytes, 0, 11, 16_777_217);
     read(b"file, output 0's capacity 16777217 as well", &bytes);
 }
 

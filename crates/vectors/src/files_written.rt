@@ -1,6 +1,6 @@
 // Requests as they are written: rows 4 to 7, and 16.
 use crate::example::request;
-use crate::show::text;
+use crate::show::first_and_last;
 use crate::show::verdict;
 use files::request::write_request;
 
@@ -38,12 +38,4 @@ fn refused() {
         write_request(r, &mut bytes),
     );
     first_and_last(bytes[0], bytes[511]);
-}
-
-fn first_and_last(first: u8, last: u8) {
-    text(b"  first byte ");
-    io::print_decimal(1, first as u64);
-    text(b", last byte ");
-    io::print_decimal(1, last as u64);
-    text(b"\n");
 }

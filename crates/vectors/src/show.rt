@@ -1,4 +1,4 @@
-// Prints verdicts, one to a line, after the text that says what was tried.
+// Prints verdicts, one to a line, after the text that says what was tried, and what a buffer holds after it.
 use switch::verdict::Refusal;
 use switch::verdict::Verdict;
 
@@ -21,4 +21,13 @@ pub fn verdict(tried: &[u8], verdict: Verdict) {
         Verdict::Accepted => text(b": accepted\n"),
         Verdict::Refused(reason) => refusal(reason),
     }
+}
+
+// The first byte of a buffer and the last.
+pub fn first_and_last(first: u8, last: u8) {
+    text(b"  first byte ");
+    io::print_decimal(1, first as u64);
+    text(b", last byte ");
+    io::print_decimal(1, last as u64);
+    text(b"\n");
 }

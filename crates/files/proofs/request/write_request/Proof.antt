@@ -8,13 +8,14 @@ use Rattle.switch.specs.Rows.{orElse, verdictOf}
 use Rattle.switch.specs.declared.verdict.Verdict.the-variants.{Accepted}
 use Rattle.switch.proofs.Rows.{or-else-accepted, verdict-append}
 use Rattle.files.specs.FileRows.{roomRow}
-use Rattle.files.specs.RequestFile.{writeVerdict}
+use Rattle.files.specs.RequestFile.{requestFile}
+use Rattle.files.specs.Writing.{writeVerdict}
 use Rattle.files.proofs.Saving.{room-of-accepted, written-accepted, refused-write-keeps}
 use Rattle.files.proofs.request.write_request.Statement.{statement}
 use Rattle.files.proofs.request.write_request.Tie as tie
 
 verdict : (c : tie.After-or-else)
-    → c .or-else .result ≡ writeVerdict (c .before .before .before .before .before .args .request)
+    → c .or-else .result ≡ writeVerdict 512 (c .before .before .before .before .before .args .request)
     (now (c .before .before .before .before .before .args .buffer))
 unfolding verdictOf
 verdict c =
@@ -24,28 +25,28 @@ verdict c =
     ∙ sym (verdict-append (requestRows (args .request)) (roomRow 512 (now (args .buffer)) ∷ []))
 
 accepted : (c : tie.After-enum-told)
-    → writeVerdict (c .before .before .before .before .before .before .before .args .request)
+    → writeVerdict 512 (c .before .before .before .before .before .before .before .args .request)
     (now (c .before .before .before .before .before .before .before .args .buffer)) ≡ Accepted
 accepted c = sym (verdict (c .before .before)) ∙ c .enum-told .given .1
 
 write-block-requires : tie.Need-write-block-requires
 write-block-requires c κs =
     let args = c .before .before .before .before .before .before .before .before .before .before .before .before .before .before .args in
-    room-of-accepted (args .request) (now (args .buffer)) (accepted (c .before .before .before .before .before .before .before)) .1
+    room-of-accepted 512 (args .request) (now (args .buffer)) (accepted (c .before .before .before .before .before .before .before)) .1
 
 returns : tie.Need-returns
 returns c =
     let told = c .before .before .before .before .before .before .before .before .before .before in
     let args = told .before .before .before .before .before .before .before .args in (
       verdict (told .before .before),
-      c .before .before .write-block .ensures ∙ sym (written-accepted (args .request) (now (args .buffer)) (accepted told)),
+      c .before .before .write-block .ensures ∙ sym (written-accepted 512 (requestFile (args .request)) (args .request) (now (args .buffer)) (accepted told)),
     )
 
 returns-2 : tie.Need-returns-2
 returns-2 c =
     let args = c .before .before .before .before .before .before .before .args in (
       verdict (c .before .before),
-      sym (refused-write-keeps (args .request) (now (args .buffer)) _ (sym (verdict (c .before .before)) ∙ c .enum-told2 .given .1)),
+      sym (refused-write-keeps 512 (requestFile (args .request)) (args .request) (now (args .buffer)) _ (sym (verdict (c .before .before)) ∙ c .enum-told2 .given .1)),
     )
 
 pub write-request-spec : {M : Type 1} → statement M

@@ -7,10 +7,10 @@ use Rattle.measure.proofs.rounds.all.Statement.{statement}
 use Rattle.measure.proofs.rounds.all.Tie as tie
 
 abbrev Inv-loop : tie.InvT-loop
-Inv-loop input rounds last digest₀ from₀ digest from = (from ≤ length input) × (last + 512 ≡ length input)
+Inv-loop input first what rounds last digest₀ from₀ digest from = (from ≤ length input) × (last + 512 ≡ length input)
 
 abbrev μ-loop : tie.MeasureT-loop
-μ-loop input rounds last digest₀ from₀ digest from = length input - from
+μ-loop input first what rounds last digest₀ from₀ digest from = length input - from
 
 pub all-spec : {M : Type 1} → statement M
 all-spec =

@@ -51,6 +51,6 @@ loop-again c =
 pub cells-over-spec : {M : Type 1} → statement M
 cells-over-spec =
     tie.close
-    (tie.spec Inv-loop μ-loop (λ c. passed-none _) (λ c κs. omega arith) (λ c. omega arith) (λ c. omega arith) (λ c. omega arith)
+    (tie.spec Inv-loop μ-loop (λ c. passed-none _) (λ c. search needs) (λ c. omega arith) (λ c κs. search needs) (λ c. omega arith)
     (λ c κs. search needs) (λ c. omega arith) (λ c κs. search needs) returns (λ c. omega arith) (λ c. omega arith) loop-again
     (λ c. sym (row-accepts (c .before .loop .inv) (omega arith))))

@@ -1,0 +1,59 @@
+-- `unused_reasons` meets its contract: each turn searches the unused cells of one input.
+use Prim.Native.Nat.{_-_, _*_}
+use mathlib.Core.Path.{sym, _∙_, ap}
+use native.Mathlib.Omega.{arith}
+use borrow.Author.Needs.{needs}
+use Rattle.switch.specs.Rows.{refusal}
+use Rattle.switch.specs.declared.verdict.Cause.the-variants.{NotZero}
+use Rattle.switch.proofs.Search.{Passed, passed-none, row-accepts}
+use Rattle.checker.specs.Places.{reasonWord}
+use Rattle.checker.proofs.Unused.{unusedRow, unused-more, unused-refuses}
+use Rattle.checker.proofs.format.unused_reasons.Statement.{statement}
+use Rattle.checker.proofs.format.unused_reasons.Tie as tie
+
+abbrev Inv-loop : tie.InvT-loop
+Inv-loop m n half reasons i₀ i = Passed (unusedRow m n half reasons reasonWord) (8 * i)
+
+abbrev μ-loop : tie.MeasureT-loop
+μ-loop m n half reasons i₀ i = 4 - i
+
+returns : tie.Need-returns Inv-loop μ-loop
+returns c =
+    let word = c .before in
+    let search = word .before .before in
+    let loop = search .before .before .before .loop in
+    let s = search .before .before .before .before .before in
+    c .refused .ensures
+    ∙ ap (refusal NotZero) (word .reason-word .ensures)
+    ∙ sym (unused-refuses (s .args .m) (s .args .n) (s .args .half) _ reasonWord (loop .i) (s .pre .0) (omega arith)
+    (search .before .used-end .ensures) (search .first-reason .ensures) (loop .inv) (omega arith))
+
+loop-again : tie.Need-loop-again Inv-loop μ-loop
+loop-again c =
+    let search = c .before in
+    let loop = search .before .before .before .loop in
+    let s = search .before .before .before .before .before in
+    unused-more (s .args .m) (s .args .n) (s .args .half) _ reasonWord (loop .i) (s .pre .0) (omega arith)
+    (search .before .used-end .ensures) (search .first-reason .ensures) (loop .inv) (omega arith)
+
+pub unused-reasons-spec : {M : Type 1} → statement M
+unused-reasons-spec =
+    tie.close
+    (tie.spec
+    Inv-loop
+    μ-loop
+    (λ c. passed-none _)
+    (λ c. omega arith)
+    (λ c. omega arith)
+    (λ c κs. search needs)
+    (λ c. search needs)
+    (λ c. omega arith)
+    (λ c. omega arith)
+    (λ c κs. search needs)
+    (λ c κs. search needs)
+    (λ c κs. search needs)
+    returns
+    (λ c. omega arith)
+    (λ c. omega arith)
+    loop-again
+    (λ c. sym (row-accepts (c .before .loop .inv) (omega arith))))
