@@ -27,7 +27,7 @@ use Rattle.switch.proofs.Cells.{cell-below, cell-of-ports, usedCell-of-cell, un
 use Rattle.switch.proofs.Fair.{fair-exactly-when-settled}
 use Rattle.switch.proofs.Reason.{bottleneck-of-holds, holds-of-bottleneck, output-bottleneck-of-holds, holds-of-output-bottleneck}
 use Rattle.switch.proofs.Rows.{silent-nil, silent-cons, silent-here, silent-after, silent-joined, silent-first, silent-second, accepted-exactly}
-use Rattle.switch.proofs.Sharing.{by-cell, Past, below-eight}
+use Rattle.switch.proofs.Sharing.{by-cell, Past, below-eight, used-flow}
 use Rattle.switch.proofs.Tests.{second-false, and-false-of, le-of-not-above, not-above-of-le}
 use Rattle.switch.proofs.Within.{within-of-silent, silent-of-within}
 use Rattle.checker.specs.PlanWithin.{PlanWithin, saidReason}
@@ -35,7 +35,7 @@ use Rattle.checker.specs.PlanRows.{numeratorOf, cellIn, unusedRates, unu
 use Rattle.checker.specs.PlanRows.{aboveDemandRow, inputOverRow, outputOverRow, free, noBottleneckRow, wrongReason, wrongReasonRow, fairRows, rateRows}
 use Rattle.checker.specs.PlanRows.{judgeRows, judged}
 use Rattle.checker.specs.Shown.{FairPlan}
-use Rattle.checker.proofs.Flows.{used-flow, silent-flows, flows-silent}
+use Rattle.checker.proofs.Flows.{silent-flows, flows-silent}
 
 -- Unused cells, in the two halves of a plan.
 module _ (r : Request) where

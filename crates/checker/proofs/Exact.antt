@@ -27,7 +27,7 @@ use Rattle.switch.specs.declared.request.Request.{Request}
 use Rattle.switch.specs.declared.verdict.Cause.the-variants.{ReasonRange, AboveDemand, InputOver, OutputOver, NoBottleneck, WrongReason}
 use Rattle.switch.proofs.Cells.{cell-below, input-of-cell, output-of-cell, usedCell-of-cell, unused-of-past}
 use Rattle.switch.proofs.Search.{same-row}
-use Rattle.switch.proofs.Sharing.{below-eight, Past, unused-input-total, unused-output-total}
+use Rattle.switch.proofs.Sharing.{below-eight, Past, unused-input-total, unused-output-total, used-flow}
 use Rattle.switch.proofs.Small.{demand-small}
 use Rattle.shares.specs.Port.{inputPort, outputPort}
 use Rattle.shares.specs.Saturated.{capped, largest}
@@ -36,7 +36,7 @@ use Rattle.checker.specs.PlanWithin.{PlanWithin, saidReason}
 use Rattle.checker.specs.PlanRows.{flowRow, reasonRangeRow, aboveDemandRow, inputOver, inputOverRow, outputOver, outputOverRow, free, noBottleneckRow, wrongReasonRow, rateRows}
 use Rattle.checker.specs.Worked.{scaled, inputSide, outputSide, levelOf, levels, rangeWorked, moreRow, below, freeRow, reasonBy, reasonsRow}
 use Rattle.checker.specs.Worked.{inputsWeighed, outputsWeighed, workedRows, ratesWorked}
-use Rattle.checker.proofs.Flows.{used-flow, as-flow-row}
+use Rattle.checker.proofs.Flows.{as-flow-row}
 
 -- A level tells whether a flow below its demand is held back: by a port that is full and has no larger flow.
 level-holds : (full sum most x : ℕ) → x < largest → leb (levelOf full sum most) x ≡ (eqb sum full && leb most x)

@@ -1,10 +1,8 @@
 -- Rows about flows: a test of every cell says what a test of the flows says, if it passes over what is unused.
 use Prim.Native.Nat.{ℕ, _<_}
-use mathlib.Core.Bool.{Bool, true, false, _&&_}
-use mathlib.Core.Logic.{_⊎_}
-use mathlib.Core.Path.{_≡_, sym, _∙_, ap, ap₂}
-use native.Mathlib.Omega.{arith}
-use Rattle.switch.specs.Cells.{cellOf, inputOf, outputOf, used, usedCell}
+use mathlib.Core.Bool.{Bool, false, _&&_}
+use mathlib.Core.Path.{_≡_, sym, _∙_, ap₂}
+use Rattle.switch.specs.Cells.{cellOf, inputOf, outputOf, usedCell}
 use Rattle.switch.specs.Fairness.{Used}
 use Rattle.switch.specs.Given.{Silent}
 use Rattle.switch.specs.Rows.{rowVerdict}
@@ -13,16 +11,11 @@ use Rattle.switch.specs.declared.port.Input.{Input}
 use Rattle.switch.specs.declared.port.Output.{Output}
 use Rattle.switch.specs.declared.request.Request.{Request}
 use Rattle.switch.specs.declared.verdict.Cause.{Cause}
-use Rattle.switch.proofs.Cells.{cell-below, cell-of-ports, input-of-cell, output-of-cell, used-of-below, below-of-used, unused-of-past, usedCell-of-ports, usedCell-of-cell}
+use Rattle.switch.proofs.Cells.{cell-below, input-of-cell, output-of-cell, below-of-used, unused-of-past, usedCell-of-ports, usedCell-of-cell}
 use Rattle.switch.proofs.Search.{same-row}
-use Rattle.switch.proofs.Sharing.{by-cell, below-eight, Past}
+use Rattle.switch.proofs.Sharing.{by-cell, below-eight, used-flow, Past}
 use Rattle.switch.proofs.Tests.{second-false, and-false-of}
 use Rattle.checker.specs.PlanRows.{flowRow}
-
-pub used-flow : (r : Request) → Within r → (u : Input) (v : Output) → Used r u v → usedCell r (cellOf u v) ≡ true
-used-flow r w u v is =
-    let low = below-eight r w u v is in
-    usedCell-of-cell r u v (low .0) (low .1) ∙ used-of-below r u v (is .input) (is .output)
 
 module _ (r : Request) (w : Within r) (cause : Cause) (test : Input → Output → Bool) where
   -- The row's test of a cell is the test of its ports.

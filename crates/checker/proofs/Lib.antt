@@ -1,5 +1,4 @@
 -- What follows from the definitions of this crate.
-pub mod Filled
 pub mod Weighed
 pub mod Unused
 pub mod Flows

@@ -19,24 +19,35 @@ pub record Offered : Type 0 where
 abbrev pub triangleReasons : List (List ℕ)
 triangleReasons = (2 ∷ []) ∷ (2 ∷ 2 ∷ []) ∷ (2 ∷ 1 ∷ 1 ∷ []) ∷ (1 ∷ 1 ∷ 1 ∷ 1 ∷ []) ∷ []
 
--- P9 has all numbers of P1's plan doubled; P10 is version two's plan; P11 is P1's with rows and columns exchanged.
-unfoldable pub offered : List Offered
-offered =
+-- P9: all numbers of P1's plan doubled.
+abbrev pub doubled : Offered
+doubled =
     record {
       request = triangle 1;
       plan = drawn 16 ((4 ∷ []) ∷ (4 ∷ 6 ∷ []) ∷ (4 ∷ 6 ∷ 6 ∷ []) ∷ (4 ∷ 4 ∷ 4 ∷ 4 ∷ []) ∷ []) triangleReasons;
       verdict = Accepted;
     }
-    ∷ record {
+
+-- P10: version two's plan.
+abbrev pub versionTwo : Offered
+versionTwo =
+    record {
       request = triangle 1;
       plan = drawn 12 ((3 ∷ []) ∷ (3 ∷ 4 ∷ []) ∷ (3 ∷ 4 ∷ 4 ∷ []) ∷ (3 ∷ 3 ∷ 3 ∷ 3 ∷ []) ∷ []) triangleReasons;
       verdict = refusal NoBottleneck 9;
     }
-    ∷ record {
+
+-- P11: P1's with rows and columns exchanged.
+abbrev pub exchanged : Offered
+exchanged =
+    record {
       request = triangle 1;
       plan =
           drawn 8 ((2 ∷ 2 ∷ 2 ∷ 2 ∷ []) ∷ (0 ∷ 3 ∷ 3 ∷ 2 ∷ []) ∷ (0 ∷ 0 ∷ 3 ∷ 2 ∷ []) ∷ (0 ∷ 0 ∷ 0 ∷ 2 ∷ []) ∷ [])
           ((2 ∷ 2 ∷ 2 ∷ 1 ∷ []) ∷ (0 ∷ 2 ∷ 1 ∷ 1 ∷ []) ∷ (0 ∷ 0 ∷ 1 ∷ 1 ∷ []) ∷ (0 ∷ 0 ∷ 0 ∷ 1 ∷ []) ∷ []);
       verdict = refusal AboveDemand 1;
     }
-    ∷ []
+
+-- All of them, as one table.
+unfoldable pub offered : List Offered
+offered = doubled ∷ versionTwo ∷ exchanged ∷ []

@@ -1,5 +1,4 @@
 -- What follows from the definitions of files.
-pub mod Filled
 pub mod Content
 pub mod Sound
 pub mod RequestFile

@@ -54,19 +54,12 @@ pub fn base_in(file: &[u8], half: u32) -> u64
     wide(word(file, from + 1), word(file, from + 2))
 }
 
-fn low_word(cell: u64) -> u64
-    requires { ⌜ cell < 64 ⌝ }
-    ensures { λ r. ⌜ r ≡ lowWord cell ⌝ }
-{
-    128 * (1 + cell / 32) + (3 + 2 * (cell % 32))
-}
-
 fn read_numerators(file: &[u8], table: &mut [u64])
     requires { ⌜ length (now table) ≡ 64 ⌝ }
     ensures { λ _. ⌜ now (table .exit) ≡ list 64 (λ c. wide (wordAt (now (file .entry)) (lowWord c)) (wordAt (now (file .entry)) (highWord c))) ⌝ }
 {
     for half in 0..2 {
-        let from = low_word(32 * half);
+        let from = 128 * (1 + half) + 3;
         for i in 0..32 {
             let low = from + 2 * i;
             table[(32 * half + i) as usize] = wide(word(file, low), word(file, low + 1));

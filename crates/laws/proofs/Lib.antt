@@ -1,4 +1,5 @@
 -- What holds of numbers, tests and lists, whatever they stand for.
 pub mod Search
 pub mod Lists
+pub mod Filled
 pub mod Determined

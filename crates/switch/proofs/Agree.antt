@@ -1,9 +1,7 @@
 -- Fairness looks at flows alone: rates that agree on every used cell are fair together, whatever unused cells hold.
 use Prim.Native.Nat.{_*_, _<_}
 use mathlib.Core.Path.{_≡_, refl, sym, _∙_}
-use mathlib.Core.Bool.{true}
 use mathlib.Core.Logic.{_⊎_, inl, inr}
-use native.Mathlib.Omega.{arith}
 use Rattle.fairness.specs.Total.{on}
 use Rattle.switch.specs.Cells.{input, output, cellOf, demandOf, usedCell}
 use Rattle.switch.specs.Within.{Within}
@@ -12,8 +10,9 @@ use Rattle.switch.specs.Fairness.{Used, Allocation, GivesMore, Fair, Inp
 use Rattle.switch.specs.declared.port.Input.{Input}
 use Rattle.switch.specs.declared.port.Output.{Output}
 use Rattle.switch.specs.declared.request.Request.{Request}
-use Rattle.switch.proofs.Cells.{usedCell-of-cell, used-of-below, unused-of-past}
+use Rattle.switch.proofs.Cells.{usedCell-of-cell, unused-of-past}
 use Rattle.switch.proofs.Grid.{sumTo-same}
+use Rattle.switch.proofs.Sharing.{used-flow}
 
 pub record Agree (r : Request) (a z : Rates) : Type 0 where
   pub base : a .base ≡ z .base
@@ -95,11 +94,7 @@ module _ (r : Request) (w : Within r) (a : Rates) where
   agree-blanked =
       record {
         base = refl;
-        flows = λ u v is.
-            let e : usedCell r (cellOf u v) ≡ true =
-            usedCell-of-cell r u v (omega (arith, is .input, w .inputs .1)) (omega (arith, is .output, w .outputs .1))
-            ∙ used-of-below r u v (is .input) (is .output) in
-            rw e;
+        flows = λ u v is. rw (used-flow r w u v is);
       }
 
   pub blank-blanked : Blank r (blanked r a)

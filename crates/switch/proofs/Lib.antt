@@ -16,5 +16,6 @@ pub mod Reason
 pub mod Planned
 pub mod SameRates
 pub mod Shown
+pub mod Entitlement
 pub mod Drawn
 pub mod Values

@@ -9,7 +9,7 @@ use borrow.Author.Tests.{eq-eqb, eqb-true, lt-ltb, le-ltb}
 use Rattle.fairness.specs.Problem.{across}
 use Rattle.fairness.specs.Fairness as General
 use Rattle.laws.proofs.Search.{le-or-lt, true-or-false}
-use Rattle.switch.specs.Cells.{input, output, cellOf, inputOf, outputOf, inputLimit, outputLimit, used}
+use Rattle.switch.specs.Cells.{input, output, cellOf, inputOf, outputOf, inputLimit, outputLimit, used, usedCell}
 use Rattle.switch.specs.Cells.{inputCapacity, outputCapacity, demandOf}
 use Rattle.switch.specs.Within.{Within}
 use Rattle.switch.specs.Rates.{Rates, flow, sumTo, inputTotal, outputTotal}
@@ -18,7 +18,7 @@ use Rattle.switch.specs.Planned.{passes, capacityOf, problemOf}
 use Rattle.switch.specs.declared.port.Input.{Input}
 use Rattle.switch.specs.declared.port.Output.{Output}
 use Rattle.switch.specs.declared.request.Request.{Request}
-use Rattle.switch.proofs.Cells.{cell-of-ports, below-of-used, past-of-unused}
+use Rattle.switch.proofs.Cells.{cell-of-ports, used-of-below, below-of-used, past-of-unused, usedCell-of-cell}
 use Rattle.switch.proofs.Grid.{sumTo-more, row-total, column-total, passes-input, passes-output}
 
 abbrev pub general : Rates → General.Allocation
@@ -49,21 +49,21 @@ by-limit Q inputs outputs l h = go (le-or-lt 8 l)
     go (inl high) = let e : 8 + (l - 8) ≡ l = omega arith in subst Q e (outputs (output (l - 8)) (omega arith))
 
 module _ (r : Request) (w : Within r) where
-  capacity-input : (u : Input) → u .0 < 8 → capacityOf r (inputLimit u) ≡ inputCapacity r u
+  pub capacity-input : (u : Input) → u .0 < 8 → capacityOf r (inputLimit u) ≡ inputCapacity r u
   capacity-input u h = rw (lt-ltb (u .0) 8 h)
 
-  capacity-output : (v : Output) → capacityOf r (outputLimit v) ≡ outputCapacity r v
+  pub capacity-output : (v : Output) → capacityOf r (outputLimit v) ≡ outputCapacity r v
   capacity-output v = rw (le-ltb (8 + v .0) 8 (omega arith), add-sub-cancel-left 8 (v .0))
 
   -- Where unused cells hold 0, a limit's flows add up to what the port's do.
-  across-input : (a : Rates) → Blank r a → (u : Input) → u .0 < 8 → across (problemOf r) (inputLimit u) (a .numerator) ≡ inputTotal r a u
+  pub across-input : (a : Rates) → Blank r a → (u : Input) → u .0 < 8 → across (problemOf r) (inputLimit u) (a .numerator) ≡ inputTotal r a u
   across-input a blank u h =
       row-total (u .0) (a .numerator) h
       ∙ ap (λ k. sumTo k (λ j. flow a u (output j))) (sym (add-sub-of-le (w .outputs .1)))
       ∙ sumTo-more (r .n) (8 - r .n) (λ j. flow a u (output j))
       (λ j l b. blank .unused u (output j) h (omega (arith, w .outputs .1)) (inr l))
 
-  across-output : (a : Rates) → Blank r a → (v : Output) → v .0 < 8 → across (problemOf r) (outputLimit v) (a .numerator) ≡ outputTotal r a v
+  pub across-output : (a : Rates) → Blank r a → (v : Output) → v .0 < 8 → across (problemOf r) (outputLimit v) (a .numerator) ≡ outputTotal r a v
   across-output a blank v h =
       column-total (v .0) (a .numerator) h
       ∙ ap (λ k. sumTo k (λ j. flow a (input j) v)) (sym (add-sub-of-le (w .inputs .1)))
@@ -72,6 +72,11 @@ module _ (r : Request) (w : Within r) where
 
   pub below-eight : (u : Input) (v : Output) → Used r u v → (u .0 < 8) × (v .0 < 8)
   below-eight u v used = (omega (arith, used .input, w .inputs .1), omega (arith, used .output, w .outputs .1))
+
+  pub used-flow : (u : Input) (v : Output) → Used r u v → usedCell r (cellOf u v) ≡ true
+  used-flow u v is =
+      let low = below-eight u v is in
+      usedCell-of-cell r u v (low .0) (low .1) ∙ used-of-below r u v (is .input) (is .output)
 
   -- An allocation of the problem is one of the request in which unused cells hold 0.
   pub blank-of-allowed : (a : Rates) → General.Allowed (problemOf r) (general a) → Blank r a

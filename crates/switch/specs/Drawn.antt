@@ -1,7 +1,8 @@
--- Document 01's drawn examples of plans, P1 to P6 and P8, with a short way to write tables.
+-- Document 01's drawn examples of plans, P1 to P8, with a short way to write tables.
 use Prim.Native.Nat.{ℕ, _-_}
 use mathlib.Core.List.{List, [], _∷_, _++_}
-use lib.ListN.{replicate, length, set}
+use lib.ListN.{replicate, length}
+use Rattle.switch.specs.Entitlement.{withDemand}
 use Rattle.switch.specs.declared.plan.Plan.{Plan}
 use Rattle.switch.specs.declared.request.Request.{Request}
 
@@ -36,47 +37,80 @@ triangle k =
 abbrev pub single : ℕ → ℕ → ℕ → Request
 single from to demand = asked 1 1 (from ∷ []) (to ∷ []) ((demand ∷ []) ∷ [])
 
--- A request with the demand of one cell exchanged, and all else as it was.
-abbrev pub withDemand : Request → ℕ → ℕ → Request
-withDemand r c d =
-    record { m = r .m; n = r .n; inputs = r .inputs; outputs = r .outputs; demands = set (r .demands) c d }
-
 -- A request and the plan that it has to have.
 pub record Example : Type 0 where
   pub request : Request
   pub plan : Plan
 
--- P1 is the triangle; P2 to P5 have one port on a side; P6 shares one input's largest capacity among three outputs; P8 is
--- the triangle with every 1 an 8, first as it is, when cell 9 gets 3, and then with the demand of cell 9 lowered to 2.
-unfoldable pub drawnPlans : List Example
-drawnPlans =
+-- P1: the triangle.
+abbrev pub triangleOfOnes : Example
+triangleOfOnes =
     record {
       request = triangle 1;
       plan =
           drawn 8 ((2 ∷ []) ∷ (2 ∷ 3 ∷ []) ∷ (2 ∷ 3 ∷ 3 ∷ []) ∷ (2 ∷ 2 ∷ 2 ∷ 2 ∷ []) ∷ [])
           ((2 ∷ []) ∷ (2 ∷ 2 ∷ []) ∷ (2 ∷ 1 ∷ 1 ∷ []) ∷ (1 ∷ 1 ∷ 1 ∷ 1 ∷ []) ∷ []);
     }
-    ∷ record { request = single 2 1 2; plan = drawn 1 ((1 ∷ []) ∷ []) ((2 ∷ []) ∷ []) }
-    ∷ record { request = single 5 5 0; plan = drawn 1 ((0 ∷ []) ∷ []) ((0 ∷ []) ∷ []) }
-    ∷ record { request = single 0 5 3; plan = drawn 1 ((0 ∷ []) ∷ []) ((1 ∷ []) ∷ []) }
-    ∷ record { request = single 5 5 5; plan = drawn 1 ((5 ∷ []) ∷ []) ((0 ∷ []) ∷ []) }
-    ∷ record { request = single 5 5 6; plan = drawn 1 ((5 ∷ []) ∷ []) ((1 ∷ []) ∷ []) }
-    ∷ record {
+
+-- P2 to P5: one port on a side.
+abbrev pub heldByOutput : Example
+heldByOutput =
+    record { request = single 2 1 2; plan = drawn 1 ((1 ∷ []) ∷ []) ((2 ∷ []) ∷ []) }
+
+abbrev pub askingNothing : Example
+askingNothing =
+    record { request = single 5 5 0; plan = drawn 1 ((0 ∷ []) ∷ []) ((0 ∷ []) ∷ []) }
+
+abbrev pub noCapacity : Example
+noCapacity =
+    record { request = single 0 5 3; plan = drawn 1 ((0 ∷ []) ∷ []) ((1 ∷ []) ∷ []) }
+
+abbrev pub askingAll : Example
+askingAll =
+    record { request = single 5 5 5; plan = drawn 1 ((5 ∷ []) ∷ []) ((0 ∷ []) ∷ []) }
+
+abbrev pub askingMore : Example
+askingMore =
+    record { request = single 5 5 6; plan = drawn 1 ((5 ∷ []) ∷ []) ((1 ∷ []) ∷ []) }
+
+-- P6: one input's largest capacity among three outputs.
+abbrev pub largestNumbers : Example
+largestNumbers =
+    record {
       request =
           asked 1 3 (16_777_216 ∷ []) (16_777_216 ∷ 16_777_216 ∷ 16_777_216 ∷ [])
           ((16_777_216 ∷ 16_777_216 ∷ 16_777_216 ∷ []) ∷ []);
       plan = drawn 3 ((16_777_216 ∷ 16_777_216 ∷ 16_777_216 ∷ []) ∷ []) ((1 ∷ 1 ∷ 1 ∷ []) ∷ []);
     }
-    ∷ record {
+
+-- P7: the plan of the worked listing.
+abbrev pub listedExample : Example
+listedExample =
+    record {
+      request = asked 2 2 (7 ∷ 10 ∷ []) (10 ∷ 10 ∷ []) ((10 ∷ 10 ∷ []) ∷ (2 ∷ 1 ∷ []) ∷ []);
+      plan = drawn 2 ((7 ∷ 7 ∷ []) ∷ (4 ∷ 2 ∷ []) ∷ []) ((1 ∷ 1 ∷ []) ∷ (0 ∷ 0 ∷ []) ∷ []);
+    }
+
+-- P8: the triangle with every 1 an 8, when cell 9 gets 3; and with the demand of cell 9 lowered to 2.
+abbrev pub triangleOfEights : Example
+triangleOfEights =
+    record {
       request = triangle 8;
       plan =
           drawn 1 ((2 ∷ []) ∷ (2 ∷ 3 ∷ []) ∷ (2 ∷ 3 ∷ 3 ∷ []) ∷ (2 ∷ 2 ∷ 2 ∷ 2 ∷ []) ∷ [])
           ((2 ∷ []) ∷ (2 ∷ 2 ∷ []) ∷ (2 ∷ 1 ∷ 1 ∷ []) ∷ (1 ∷ 1 ∷ 1 ∷ 1 ∷ []) ∷ []);
     }
-    ∷ record {
+
+abbrev pub cellNineLowered : Example
+cellNineLowered =
+    record {
       request = withDemand (triangle 8) 9 2;
       plan =
           drawn 1 ((2 ∷ []) ∷ (2 ∷ 2 ∷ []) ∷ (2 ∷ 3 ∷ 3 ∷ []) ∷ (2 ∷ 2 ∷ 2 ∷ 2 ∷ []) ∷ [])
           ((2 ∷ []) ∷ (2 ∷ 0 ∷ []) ∷ (2 ∷ 1 ∷ 1 ∷ []) ∷ (1 ∷ 1 ∷ 1 ∷ 1 ∷ []) ∷ []);
     }
-    ∷ []
+
+-- All of them, as one table.
+unfoldable pub drawnPlans : List Example
+drawnPlans =
+    triangleOfOnes ∷ heldByOutput ∷ askingNothing ∷ noCapacity ∷ askingAll ∷ askingMore ∷ largestNumbers ∷ listedExample ∷ triangleOfEights ∷ cellNineLowered ∷ []

@@ -7,6 +7,7 @@ pub mod Fairness
 pub mod Reason
 pub mod Planned
 pub mod Shown
+pub mod Entitlement
 pub mod Values
 pub mod Numbering
 pub mod Rows

@@ -1,8 +1,8 @@
 // Ports and cells: an input's number and an output's number are two types, so that an exchange of them is refused.
 ghost use mathlib.Core.Path.{_≡_};
-ghost use Prim.Native.Nat.{min};
 ghost use Rattle.switch.specs.Cells.{cellOf, inputOf, outputOf, inputLimit, outputLimit};
 ghost use Rattle.switch.specs.Tables.{usedEnd};
+use crate::number::lesser;
 
 pub struct Input(pub u32);
 
@@ -13,12 +13,6 @@ pub fn cell(u: Input, v: Output) -> u64
     ensures { λ r. ⌜ r ≡ cellOf u v ⌝ }
 {
     8 * (u.0 as u64) + (v.0 as u64)
-}
-
-fn lesser(a: u64, b: u64) -> u64
-    ensures { λ r. ⌜ r ≡ min a b ⌝ }
-{
-    if a < b { a } else { b }
 }
 
 // The end of an input's used cells, which are the first of its eight.

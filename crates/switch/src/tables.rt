@@ -1,11 +1,11 @@
 // Walks over a request's tables: each looks for the first number above a limit that only used, or only unused, ports or
 // cells have. They serve rows 5 to 7 of the refusal table.
-ghost use Prim.Native.Nat.{min};
 ghost use mathlib.Core.Path.{_≡_};
 ghost use mathlib.Core.Bool.{cond};
 ghost use Rattle.switch.specs.Rows.{rowVerdict};
 ghost use Rattle.switch.specs.RequestRows.{outside};
 ghost use Rattle.switch.specs.Tables.{FirstAbove, portsOver, cellsOver};
+use crate::number::lesser;
 use crate::port::Input;
 use crate::port::used_end;
 use crate::request::Request;
@@ -18,12 +18,6 @@ pub fn outside(count: u32) -> bool
     ensures { λ r. ⌜ r ≡ outside count ⌝ }
 {
     !((1 <= count) & (count <= Request::PORTS))
-}
-
-fn lesser(a: u64, b: u64) -> u64
-    ensures { λ r. ⌜ r ≡ min a b ⌝ }
-{
-    if a < b { a } else { b }
 }
 
 // The first of the entries from `first` on and before `last` that is more than `most`, or 64. Past its end a table counts as

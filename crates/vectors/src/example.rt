@@ -1,16 +1,14 @@
-// The request of the worked listing, as a value, as a file and with its plan.
+// The request of the worked listing, and its files. Its plan has base 2, numerators 7, 7 / 4, 2 and reasons 1, 1 / 0, 0.
+use crate::show::both;
+use files::check::check;
 use files::plan::write_plan;
+use files::request::read_request;
 use files::request::write_request;
 use switch::request::Request;
+use switch::verdict::Verdict;
 
 // Two inputs of 7 and 10, two outputs of 10 and 10, demands 10, 10 / 2, 1.
 pub fn request() -> Request {
-    let mut inputs = [0u32; 8];
-    inputs[0] = 7;
-    inputs[1] = 10;
-    let mut outputs = [0u32; 8];
-    outputs[0] = 10;
-    outputs[1] = 10;
     let mut demands = [0u32; 64];
     demands[0] = 10;
     demands[1] = 10;
@@ -19,21 +17,25 @@ pub fn request() -> Request {
     Request {
         m: 2,
         n: 2,
-        inputs,
-        outputs,
+        inputs: [7, 10, 0, 0, 0, 0, 0, 0],
+        outputs: [10, 10, 0, 0, 0, 0, 0, 0],
         demands,
     }
 }
 
-pub fn file() -> [u8; 512] {
-    let mut bytes = [0u8; 512];
-    write_request(request(), &mut bytes);
-    bytes
+// Writes its plan file, or its request file, with `m` for the number of inputs.
+pub fn write(plan: bool, m: u32, buffer: &mut [u8]) -> Verdict {
+    let mut request = request();
+    request.m = m;
+    if plan {
+        return write_plan(request, buffer);
+    }
+    write_request(request, buffer)
 }
 
-// Its plan has base 2, numerators 7, 7 / 4, 2 and reasons 1, 1 / 0, 0.
-pub fn plan_file() -> [u8; 1536] {
-    let mut bytes = [0u8; 1536];
-    write_plan(request(), &mut bytes);
-    bytes
+// Reads a request file and checks a plan file.
+pub fn read(request: &[u8], plan: &[u8]) {
+    let answer = read_request(request);
+    let given = answer.verdict;
+    both(given, check(plan));
 }

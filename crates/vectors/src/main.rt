@@ -1,26 +1,21 @@
 // Runs the examples of the rules that are there to be run, provokes each refusal, and prints what was answered.
-mod chosen;
+mod changes;
+mod drawn;
 mod dump;
 mod example;
-mod files_read;
-mod files_written;
-mod plan_files;
-mod plans;
-mod plans_written;
-mod sealed;
+mod file_rows;
+mod lengths;
 mod show;
-mod triangle;
+mod value_rows;
 mod values;
 
 fn main() {
-    values::all();
-    files_read::all();
-    files_written::all();
-    plans::all();
-    plan_files::all();
-    plans_written::all();
-    chosen::all();
-    dump::empty_checks();
-    dump::request_file();
-    dump::plan_file();
+    let last = values::all(b"the worked listing", example::request(), &drawn::LISTING);
+    let triangle = last.request;
+    values::all(b"\nthe triangle", triangle, &drawn::PLANS);
+    values::all(b"\nthe triangle again", triangle, &value_rows::CHANGES);
+    changes::tables(triangle);
+    lengths::all();
+    dump::all();
+    show::text(b"\n");
 }

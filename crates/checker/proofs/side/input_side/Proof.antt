@@ -1,19 +1,20 @@
 -- `input_side` meets its contract: both tables are filled from the front, one input a turn.
 use Prim.Native.Nat.{_-_, _≤_}
-use mathlib.Core.Path.{ap}
+use mathlib.Core.Path.{refl, ap}
 use native.Mathlib.Omega.{arith}
 use borrow.Author.Needs.{needs}
+use lib.ListN.{length}
 use Rattle.switch.specs.Cells.{input}
 use Rattle.shares.specs.Port.{inputPort}
 use Rattle.shares.specs.declared.port.Port.{Port}
-use Rattle.checker.proofs.Filled.{Filled, filled-none, filled-next, filled-all}
+use Rattle.laws.proofs.Filled.{Filled, filled-none, filled-next, filled-all}
 use Rattle.checker.proofs.side.input_side.Statement.{statement}
 use Rattle.checker.proofs.side.input_side.Tie as tie
 
 abbrev Inv-loop : tie.InvT-loop
 Inv-loop n numerators sums₀ mosts₀ u₀ sums mosts u =
-    (u ≤ 8) × Filled u (λ i. inputPort n numerators (input i) .sum) sums₀ sums
-    × Filled u (λ i. inputPort n numerators (input i) .most) mosts₀ mosts
+    (u ≤ 8) × Filled (length sums₀) (λ i. inputPort n numerators (input i) .sum) u sums
+    × Filled (length mosts₀) (λ i. inputPort n numerators (input i) .most) u mosts
 
 abbrev μ-loop : tie.MeasureT-loop
 μ-loop n numerators sums₀ mosts₀ u₀ sums mosts u = 8 - u
@@ -39,7 +40,7 @@ input-side-spec =
     (tie.spec
     Inv-loop
     μ-loop
-    (λ c. (omega arith, filled-none _ _, filled-none _ _))
+    (λ c. (omega arith, filled-none _ _ refl, filled-none _ _ refl))
     (λ c κs. search needs)
     (λ c. search needs)
     (λ c. search needs)

@@ -1,19 +1,20 @@
 -- `output_side` meets its contract: both tables are filled from the front, one output a turn.
 use Prim.Native.Nat.{_-_, _≤_}
-use mathlib.Core.Path.{ap}
+use mathlib.Core.Path.{refl, ap}
 use native.Mathlib.Omega.{arith}
 use borrow.Author.Needs.{needs}
+use lib.ListN.{length}
 use Rattle.switch.specs.Cells.{output}
 use Rattle.shares.specs.Port.{outputPort}
 use Rattle.shares.specs.declared.port.Port.{Port}
-use Rattle.checker.proofs.Filled.{Filled, filled-none, filled-next, filled-all}
+use Rattle.laws.proofs.Filled.{Filled, filled-none, filled-next, filled-all}
 use Rattle.checker.proofs.side.output_side.Statement.{statement}
 use Rattle.checker.proofs.side.output_side.Tie as tie
 
 abbrev Inv-loop : tie.InvT-loop
 Inv-loop m numerators sums₀ mosts₀ v₀ sums mosts v =
-    (v ≤ 8) × Filled v (λ i. outputPort m numerators (output i) .sum) sums₀ sums
-    × Filled v (λ i. outputPort m numerators (output i) .most) mosts₀ mosts
+    (v ≤ 8) × Filled (length sums₀) (λ i. outputPort m numerators (output i) .sum) v sums
+    × Filled (length mosts₀) (λ i. outputPort m numerators (output i) .most) v mosts
 
 abbrev μ-loop : tie.MeasureT-loop
 μ-loop m numerators sums₀ mosts₀ v₀ sums mosts v = 8 - v
@@ -39,7 +40,7 @@ output-side-spec =
     (tie.spec
     Inv-loop
     μ-loop
-    (λ c. (omega arith, filled-none _ _, filled-none _ _))
+    (λ c. (omega arith, filled-none _ _ refl, filled-none _ _ refl))
     (λ c κs. search needs)
     (λ c. search needs)
     (λ c. search needs)

@@ -5,13 +5,13 @@ use native.Mathlib.Omega.{arith}
 use borrow.Author.Needs.{needs}
 use lib.ListN.{length, getD}
 use Rattle.shares.specs.Saturated.{capped}
-use Rattle.checker.proofs.Filled.{Filled, filled-none, filled-next, filled-all}
+use Rattle.laws.proofs.Filled.{Filled, filled-none, filled-next, filled-all}
 use Rattle.checker.proofs.side.scale.Statement.{statement}
 use Rattle.checker.proofs.side.scale.Tie as tie
 
 abbrev Inv-loop : tie.InvT-loop
 Inv-loop table base wide₀ i₀ i-end wide i =
-    (i ≤ i-end) × (i-end ≡ length wide₀) × Filled i (λ k. capped (getD table k 0 * base)) wide₀ wide
+    (i ≤ i-end) × (i-end ≡ length wide₀) × Filled (length wide₀) (λ k. capped (getD table k 0 * base)) i wide
 
 abbrev μ-loop : tie.MeasureT-loop
 μ-loop table base wide₀ i₀ i-end wide i = i-end - i
@@ -31,7 +31,7 @@ scale-spec =
     (tie.spec
     Inv-loop
     μ-loop
-    (λ c. (omega arith, refl, filled-none _ _))
+    (λ c. (omega arith, refl, filled-none _ _ refl))
     (λ c κs. search needs)
     (λ c κs. search needs)
     (λ c. search needs)

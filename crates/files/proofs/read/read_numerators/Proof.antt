@@ -8,7 +8,7 @@ use denote.Ref.{now}
 use Rattle.blocks.specs.Words.{wordAt}
 use Rattle.checker.specs.Places.{lowWord, highWord}
 use Rattle.files.specs.PlanFile.{wide}
-use Rattle.files.proofs.Filled.{Filled, filled-none, filled-next, filled-as, filled-all}
+use Rattle.laws.proofs.Filled.{Filled, filled-none, filled-next, filled-as, filled-all}
 use Rattle.files.proofs.read.read_numerators.Statement.{statement}
 use Rattle.files.proofs.read.read_numerators.Tie as tie
 
@@ -16,44 +16,45 @@ abbrev numerator : List ℕ → ℕ → ℕ
 numerator file c = wide (wordAt file (lowWord c)) (wordAt file (highWord c))
 
 abbrev Inv-loop : tie.InvT-loop
-Inv-loop file table₀ half₀ table half = (half ≤ 2) × Filled (numerator file) (32 * half) table
+Inv-loop file table₀ half₀ table half = (half ≤ 2) × Filled 64 (numerator file) (32 * half) table
 
 abbrev μ-loop : tie.MeasureT-loop
 μ-loop file table₀ half₀ table half = 2 - half
 
 abbrev Inv-loop2 : tie.InvT-loop2
-Inv-loop2 file table₀ half from i₀ table i = (i ≤ 32) × Filled (numerator file) (32 * half + i) table
+Inv-loop2 file table₀ half from i₀ table i = (i ≤ 32) × (from ≡ 128 * (1 + half) + 3) × Filled 64 (numerator file) (32 * half + i) table
 
 abbrev μ-loop2 : tie.MeasureT-loop2
 μ-loop2 file table₀ half from i₀ table i = 32 - i
 
 loop2-holds : tie.Need-loop2-holds Inv-loop2 μ-loop2 Inv-loop μ-loop
 loop2-holds c =
-    let at = c .before .before .loop in
-    (omega arith, filled-as (at .inv .1) (omega arith))
+    let at = c .before .loop in
+    (omega arith, omega arith, filled-as (at .inv .1) (omega arith))
 
 loop2-again : tie.Need-loop2-again Inv-loop2 μ-loop2 Inv-loop μ-loop
 loop2-again c =
     let at = c .before .before .before .before .loop2 in
-    let start = c .before .before .before .before .before in
-    let half = start .before .before .loop .half in
-    let file = now (start .before .before .before .before .before .args .file) in
-    let low : start .low-word .result + 2 * at .i ≡ lowWord (32 * half + at .i) = omega (arith, start .low-word .ensures) in
+    let outer = c .before .before .before .before .before .before in
+    let half = outer .loop .half in
+    let file = now (outer .before .before .before .args .file) in
+    let place : 128 * (1 + half) + 3 + 2 * at .i ≡ lowWord (32 * half + at .i) = omega arith in
+    let low = ap (λ (k : ℕ). k + 2 * at .i) (at .inv .1) ∙ place in
     let read : c .wide .result ≡ numerator file (32 * half + at .i) =
     c .wide .ensures
     ∙ ap₂ wide (c .before .before .word .ensures ∙ ap (wordAt file) low)
     (c .before .word2 .ensures ∙ ap (λ (k : ℕ). wordAt file (k + 1)) low) in
-    (omega arith, filled-as (filled-next (at .inv .1) (omega arith) read) (omega arith))
+    (omega arith, at .inv .1, filled-as (filled-next (at .inv .2) (omega arith) read) (omega arith))
 
 loop-again : tie.Need-loop-again Inv-loop2 μ-loop2 Inv-loop μ-loop
 loop-again c =
     let at = c .before .loop2 in
-    (omega arith, filled-as (at .inv .1) (omega arith))
+    (omega arith, filled-as (at .inv .2) (omega arith))
 
 returns : tie.Need-returns Inv-loop2 μ-loop2 Inv-loop μ-loop
 returns c =
     let at = c .before .loop in
-    filled-all (filled-as (at .inv .1) (omega arith))
+    filled-all (at .inv .1) (omega arith)
 
 pub read-numerators-spec : {M : Type 1} → statement M
 read-numerators-spec =
@@ -65,7 +66,8 @@ read-numerators-spec =
     μ-loop
     (λ c. (omega arith, filled-none _ _ (search needs)))
     (λ c. search needs)
-    (λ c κs. search needs)
+    (λ c. search needs)
+    (λ c. search needs)
     loop2-holds
     (λ c. search needs)
     (λ c. search needs)

@@ -7,7 +7,7 @@ use borrow.Author.Needs.{needs}
 use denote.Ref.{now}
 use lib.ListN.{getD}
 use Rattle.checker.specs.Places.{reasonByte}
-use Rattle.files.proofs.Filled.{Filled, filled-none, filled-next, filled-as, filled-all}
+use Rattle.laws.proofs.Filled.{Filled, filled-none, filled-next, filled-as, filled-all}
 use Rattle.files.proofs.read.read_reasons.Statement.{statement}
 use Rattle.files.proofs.read.read_reasons.Tie as tie
 
@@ -15,14 +15,14 @@ abbrev reason : List ℕ → ℕ → ℕ
 reason file c = getD file (reasonByte c) 0
 
 abbrev Inv-loop : tie.InvT-loop
-Inv-loop file table₀ half₀ table half = (half ≤ 2) × Filled (reason file) (32 * half) table
+Inv-loop file table₀ half₀ table half = (half ≤ 2) × Filled 64 (reason file) (32 * half) table
 
 abbrev μ-loop : tie.MeasureT-loop
 μ-loop file table₀ half₀ table half = 2 - half
 
 abbrev Inv-loop2 : tie.InvT-loop2
 Inv-loop2 file table₀ half from i₀ table i =
-    (i ≤ 32) × (from ≡ 512 * (1 + half) + 268) × Filled (reason file) (32 * half + i) table
+    (i ≤ 32) × (from ≡ 512 * (1 + half) + 268) × Filled 64 (reason file) (32 * half + i) table
 
 abbrev μ-loop2 : tie.MeasureT-loop2
 μ-loop2 file table₀ half from i₀ table i = 32 - i
@@ -51,7 +51,7 @@ loop-again c =
 returns : tie.Need-returns Inv-loop2 μ-loop2 Inv-loop μ-loop
 returns c =
     let at = c .before .loop in
-    filled-all (filled-as (at .inv .1) (omega arith))
+    filled-all (at .inv .1) (omega arith)
 
 pub read-reasons-spec : {M : Type 1} → statement M
 read-reasons-spec =

@@ -1,0 +1,4 @@
+-- What holds of the calls for C.
+pub mod Places
+pub mod PlanLaid
+pub mod Shown

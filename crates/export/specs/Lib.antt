@@ -1,0 +1,3 @@
+-- What the calls for C answer.
+pub mod Code
+pub mod Shown

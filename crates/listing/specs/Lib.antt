@@ -1,0 +1,6 @@
+-- The text of a plan.
+pub mod Ascii
+pub mod Decimal
+pub mod Listing
+pub mod Appended
+pub mod Shown

@@ -1,0 +1,7 @@
+-- That what was promised is kept.
+pub mod Answer
+pub mod Demand1
+pub mod Demand2
+pub mod Demand3
+pub mod Drawn
+pub mod Calls
