@@ -1,24 +1,29 @@
 -- What is shown of the calls for C.
 use Prim.Native.Nat.{ℕ, _+_, _*_, _/_, _%_, _≤_, _<_}
-use mathlib.Core.Logic.{_↔_}
+use mathlib.Core.Logic.{_↔_, _⊎_, inl, inr}
 use mathlib.Core.Path.{_≡_, refl, sym, _∙_, ap, subst}
 use mathlib.Core.List.{List, [], _∷_}
+use native.Mathlib.Nat.{zero-lt-suc}
 use native.Mathlib.Omega.{arith}
 use lib.ListN.{length, take, drop}
 use Rattle.laws.proofs.Lists.{length-list}
+use Rattle.laws.proofs.Search.{le-or-lt}
 use Rattle.switch.specs.Given.{Gives, numbersOf}
 use Rattle.switch.specs.Numbering.{numberOf}
 use Rattle.switch.specs.Within.{Shaped}
+use Rattle.switch.specs.declared.request.Request.{Request}
 use Rattle.switch.specs.declared.verdict.Refusal.{Refusal}
 use Rattle.switch.specs.declared.verdict.Verdict.{Verdict}
 use Rattle.switch.specs.declared.verdict.Verdict.the-variants.{Accepted, Refused}
 use Rattle.files.specs.PlanFile.{checkVerdict}
 use Rattle.files.specs.RequestFile.{requestIn, readVerdict}
 use Rattle.files.specs.Writing.{writeVerdict}
-use Rattle.files.proofs.PlanShown.{plan-writing-shown}
+use Rattle.files.proofs.PlanShown.{plan-writing-shown, choosing-shown}
 use Rattle.files.proofs.Saving.{write-accepts, room-of-accepted}
 use Rattle.files.proofs.Sound.{sound-of-accepted}
-use Rattle.export.specs.Code.{codeOf, Placed, planRows, planVerdict, planLaid}
+use Rattle.listing.specs.Listing.{firstLine, planText, refusedText, textOf, listingOf, listed}
+use Rattle.listing.proofs.Shown.{listing-shown}
+use Rattle.export.specs.Code.{codeOf, Placed, planRows, planVerdict, planLaid, choiceOf}
 use Rattle.export.specs.Shown.{Exporting}
 use Rattle.export.proofs.Places.{read-placed, check-placed, plan-placed, number-in-table}
 use Rattle.export.proofs.PlanLaid.{verdict-of-read, laid-of-read, read-of-accepted, laid-refused}
@@ -68,6 +73,32 @@ laid file buffer e =
       ap (drop 1536) same ∙ plan-writing-shown .rest-kept r buffer .1,
     )
 
+choice-proposed : (proposed running : List ℕ) → checkVerdict proposed ≡ Accepted → choiceOf proposed running ≡ 1
+choice-proposed proposed running e = rw e
+
+choice-running : (proposed running : List ℕ) (x : Refusal) → checkVerdict proposed ≡ Refused x → checkVerdict running ≡ Accepted
+    → choiceOf proposed running ≡ 2
+choice-running proposed running x e f = rw (e, f)
+
+choice-neither : (proposed running : List ℕ) (x y : Refusal) → checkVerdict proposed ≡ Refused x → checkVerdict running ≡ Refused y
+    → choiceOf proposed running ≡ 0
+choice-neither proposed running x y e f = rw (e, f)
+
+-- Every text begins with a word.
+never-empty : (v : Verdict) (r : Request) → 0 < length (textOf v r)
+unfolding planText firstLine refusedText
+never-empty Accepted r = zero-lt-suc _
+never-empty (Refused x) r = zero-lt-suc _
+
+without-text : (file text : List ℕ) → (listed file text .length ≡ 0) ↔ (length text < length (listingOf file))
+without-text file text = (λ e. go e (le-or-lt (length (listingOf file)) (length text)), λ h. listing-shown .without-room file text h .1)
+  where
+    go : listed file text .length ≡ 0 → (length (listingOf file) ≤ length text) ⊎ (length text < length (listingOf file))
+        → length text < length (listingOf file)
+    go e (inr h) = h
+    go e (inl h) =
+        absurd (omega (arith, listing-shown .written file text h .0, e, never-empty (readVerdict file) (requestIn file)))
+
 pub exporting-shown : Exporting
 exporting-shown =
     record {
@@ -80,4 +111,8 @@ exporting-shown =
       accepted-exactly = accepted;
       written = laid;
       refused = laid-refused;
+      proposed = λ p r e. (choice-proposed p r e, choosing-shown .proposed p r e);
+      running = λ p r x e f. (choice-running p r x e f, choosing-shown .running p r x e f);
+      neither = λ p r x y e f. (choice-neither p r x y e f, choosing-shown .neither p r x y e f);
+      not-listed = without-text;
     }

@@ -1,4 +1,4 @@
--- A verdict as one number, for C, and what the call answers that turns a request file into a plan file.
+-- A verdict as one number, for C; what the call answers that turns a request file into a plan file; and a choice as a number.
 use Prim.Native.Nat.{ℕ, _+_, _*_, _<_}
 use mathlib.Core.List.{List, [], _∷_, _++_}
 use lib.ListN.{drop}
@@ -8,6 +8,7 @@ use Rattle.switch.specs.Planned.{planOf}
 use Rattle.switch.specs.Rows.{Row, verdictOf, ifAccepted}
 use Rattle.switch.specs.declared.verdict.Verdict.{Verdict}
 use Rattle.switch.specs.declared.verdict.Verdict.the-variants.{Accepted, Refused}
+use Rattle.files.specs.Chosen.{oneOf}
 use Rattle.files.specs.FileRows.{roomRow}
 use Rattle.files.specs.PlanFile.{planFile}
 use Rattle.files.specs.RequestFile.{requestIn, requestFileRows}
@@ -32,3 +33,7 @@ planVerdict file buffer = verdictOf (planRows file buffer)
 abbrev pub planLaid : List ℕ → List ℕ → List ℕ
 planLaid file buffer =
     ifAccepted (planVerdict file buffer) (planFile (requestIn file) (planOf (requestIn file)) ++ drop 1536 buffer) buffer
+
+-- Which file is to be loaded: 1 is the proposed one, 2 the running one, 0 neither.
+abbrev pub choiceOf : List ℕ → List ℕ → ℕ
+choiceOf proposed running = oneOf proposed running 1 2 0

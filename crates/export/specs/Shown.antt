@@ -1,5 +1,5 @@
 -- What is shown of the calls for C, in one place: with `Code`, the file to read.
-use Prim.Native.Nat.{ℕ, _*_, _/_, _%_, _≤_}
+use Prim.Native.Nat.{ℕ, _*_, _/_, _%_, _≤_, _<_}
 use mathlib.Core.Logic.{_↔_}
 use mathlib.Core.Path.{_≡_}
 use mathlib.Core.List.{List, [], _∷_}
@@ -8,9 +8,11 @@ use Rattle.switch.specs.Given.{Gives, numbersOf}
 use Rattle.switch.specs.declared.verdict.Refusal.{Refusal}
 use Rattle.switch.specs.declared.verdict.Verdict.{Verdict}
 use Rattle.switch.specs.declared.verdict.Verdict.the-variants.{Accepted, Refused}
+use Rattle.files.specs.Chosen.{planBlocks, chosen}
 use Rattle.files.specs.PlanFile.{checkVerdict}
 use Rattle.files.specs.RequestFile.{readVerdict}
-use Rattle.export.specs.Code.{codeOf, Placed, planRows, planVerdict, planLaid}
+use Rattle.listing.specs.Listing.{listingOf, listed}
+use Rattle.export.specs.Code.{codeOf, Placed, planRows, planVerdict, planLaid, choiceOf}
 
 pub record Exporting : Type 0 where
   -- 0 says accepted, and nothing else
@@ -32,3 +34,12 @@ pub record Exporting : Type 0 where
       → (checkVerdict (take 1536 (planLaid file buffer)) ≡ Accepted) × (drop 1536 (planLaid file buffer) ≡ drop 1536 buffer)
   -- a refusal keeps all
   pub refused : (file buffer : List ℕ) (x : Refusal) → planVerdict file buffer ≡ Refused x → planLaid file buffer ≡ buffer
+  -- the number of a choice says whose plan the chooser hands back
+  pub proposed : (proposed running : List ℕ) → checkVerdict proposed ≡ Accepted
+      → (choiceOf proposed running ≡ 1) × (chosen proposed running ≡ planBlocks proposed)
+  pub running : (proposed running : List ℕ) (x : Refusal) → checkVerdict proposed ≡ Refused x → checkVerdict running ≡ Accepted
+      → (choiceOf proposed running ≡ 2) × (chosen proposed running ≡ planBlocks running)
+  pub neither : (proposed running : List ℕ) (x y : Refusal) → checkVerdict proposed ≡ Refused x → checkVerdict running ≡ Refused y
+      → (choiceOf proposed running ≡ 0) × (chosen proposed running ≡ [])
+  -- no text is empty, so that a listing of 0 bytes says that there was no room, and nothing else
+  pub not-listed : (file text : List ℕ) → (listed file text .length ≡ 0) ↔ (length text < length (listingOf file))

@@ -1,10 +1,9 @@
 // What a program in C calls. A row of bytes comes as a pointer and a length; nothing is asked of the bytes.
 ghost use mathlib.Core.Path.{_≡_};
-ghost use Rattle.files.specs.Chosen.{oneOf};
 ghost use Rattle.files.specs.PlanFile.{checkVerdict};
 ghost use Rattle.files.specs.RequestFile.{readVerdict};
 ghost use Rattle.listing.specs.Listing.{listed, listedIn};
-ghost use Rattle.export.specs.Code.{codeOf, planVerdict, planLaid};
+ghost use Rattle.export.specs.Code.{codeOf, planVerdict, planLaid, choiceOf};
 use crate::code::code;
 use files::check::check;
 use files::plan::write_plan;
@@ -48,7 +47,7 @@ pub extern "C" fn rate_plan_check(plan: &[u8]) -> u64
 // them would say no more, since the plan is bytes 512 to 1,535 of either.
 #[no_mangle]
 pub extern "C" fn rate_plan_choose(proposed: &[u8], running: &[u8]) -> u64
-    ensures { λ r. ⌜ r ≡ oneOf (now (proposed .entry)) (now (running .entry)) 1 2 0 ⌝ }
+    ensures { λ r. ⌜ r ≡ choiceOf (now (proposed .entry)) (now (running .entry)) ⌝ }
 {
     let first = check(proposed);
     if let Verdict::Accepted = first {

@@ -23,12 +23,12 @@ use Rattle.shares.specs.Saturated.{capped, ports}
 use Rattle.planner.specs.Planned.{planned}
 use Rattle.checker.specs.PlanRows.{planWith, halfNotZero, baseRow, judged}
 use Rattle.checker.specs.Worked.{ratesWorked}
-use Rattle.files.specs.Chosen.{oneOf, chosen, chosenAt}
+use Rattle.files.specs.Chosen.{chosen, chosenAt}
 use Rattle.files.specs.PlanFile.{checkVerdict, planWritten}
 use Rattle.files.specs.RequestFile.{readVerdict, requestRead, requestWritten}
 use Rattle.files.specs.Writing.{writeVerdict}
 use Rattle.listing.specs.Listing.{listed, listedIn}
-use Rattle.export.specs.Code.{codeOf, planVerdict, planLaid}
+use Rattle.export.specs.Code.{codeOf, planVerdict, planLaid, choiceOf}
 use Rattle.promises.specs.Contract.{Settles}
 use Rattle.blocks.proofs.word.word.Reads as Word
 use Rattle.blocks.proofs.word.put.Reads as Put
@@ -162,7 +162,7 @@ pub record ExportCalls : Type 0 where
       (λ κ (request, (plan, _)). planLaid (now request) (now plan))
   pub check : Settles PlanCheck.Asked PlanCheck.Post (λ κ z e. z) (λ κ (plan, _). codeOf (checkVerdict (now plan)))
   pub choose : Settles PlanChoose.Asked PlanChoose.Post (λ κ z e. z)
-      (λ κ (proposed, (running, _)). oneOf (now proposed) (now running) 1 2 0)
+      (λ κ (proposed, (running, _)). choiceOf (now proposed) (now running))
   pub list : Settles PlanList.Asked PlanList.Post (λ κ z e. z) (λ κ (request, (text, _)). listed (now request) (now text) .length)
   pub list-text : Settles PlanList.Asked PlanList.Post (λ κ z (_, (text, _)). now text)
       (λ κ (request, (text, _)). listedIn (now request) (now text))
