@@ -3,8 +3,12 @@
 
 The same words always give the same bytes, on any machine.
 """
-import struct
 import sys
+from pathlib import Path
+
+sys.dont_write_bytecode = True  # a tool leaves nothing behind
+sys.path.insert(0, str(Path(__file__).resolve().parent.parent / "tools"))
+from request_file import file_of
 
 LIMIT = 16_777_216  # the largest capacity and the largest demand
 MOST = 100  # requests in one output
@@ -114,28 +118,10 @@ def size(numbers, m, n):
 KINDS = {kind.__name__: kind for kind in (saturated, sparse, ties, rounds, demand)}
 
 
-def padded(items, length):
-    return items + [0] * (length - len(items))
-
-
-def check_of(words):
-    """The check of block 0."""
-    total = 1
-    for word in words:
-        total = (total << 1 | total >> 31) & 0xFFFFFFFF
-        total = (total + word) & 0xFFFFFFFF
-    return total
-
-
-def file_of(request):
-    """The request's sealed block."""
-    words = [1, len(request.inputs), len(request.outputs)]
-    words += padded(request.inputs, 8) + padded(request.outputs, 8)
-    for row in padded(request.demands, 8):
-        words += padded(row or [], 8)
-    words = padded(words, 127)
-    assert max(words) <= LIMIT, "a number above the limit"
-    return struct.pack("<128I", *words, check_of(words))
+def block_of(request):
+    """The request's file; a kind that draws numbers above the limit would measure refusals."""
+    assert max(*request.inputs, *request.outputs, *map(max, request.demands)) <= LIMIT, "a number above the limit"
+    return file_of(request.inputs, request.outputs, request.demands)
 
 
 def usage():
@@ -161,7 +147,7 @@ def main(words):
     count = numbers_in(words, 1, MOST)[0] if words else MOST
     numbers = Numbers(seed)
     for _ in range(count):
-        sys.stdout.buffer.write(file_of(make(numbers)))
+        sys.stdout.buffer.write(block_of(make(numbers)))
 
 
 if __name__ == "__main__":

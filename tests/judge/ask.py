@@ -84,6 +84,17 @@ class Program:
             process.wait()
         process.stdout.close()
 
+    def finish(self) -> str:
+        """Ends the program after its last answer; says what is wrong with how it ends, or nothing."""
+        process = self.process
+        if process is None:
+            return ""
+        process.stdin.close()
+        surplus = take(process.stdout.fileno(), 1)
+        ended = how_it_ended(process)
+        self.stop()
+        return "the program wrote more than its answers" if surplus else "" if process.returncode == 0 else ended
+
     def ask(self, questions: Sequence[Question]) -> list[Answer | None]:
         """The answers in order; after an end of the program all that are missing are None."""
         process = self.start()

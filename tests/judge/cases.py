@@ -35,10 +35,15 @@ def listing_room(rng: Random, length: int) -> int:
     return rng.choice((*enough, length - 1, rng.randrange(length)))
 
 
+def idle_room(rng: Random) -> int:
+    """Room beside a call that writes nothing: mostly none, and now and then some that has to stay as it is."""
+    return rng.choice((1, files.PLAN_SIZE, LONGEST, rng.randint(1, LONGEST))) if rng.random() < 0.05 else 0
+
+
 def about_request(rng: Random, data: bytes) -> list[Question]:
     """The three calls that take a request file."""
     return [
-        Question(READ, 0, data),
+        Question(READ, idle_room(rng), data),
         Question(WRITE, writer_room(rng), data),
         Question(LIST, listing_room(rng, len(listing.listing_of(data))), data),
     ]
@@ -51,7 +56,7 @@ def request_case(rng: Random) -> list[Question]:
     plan_file = files.plan_bytes(request, waterfill.plan_of(request))
     return [
         *about_request(rng, blocks.bytes_of(words)),
-        Question(CHECK, 0, plan_file),
+        Question(CHECK, idle_room(rng), plan_file),
         *about_request(rng, damaged(rng, words, REQUEST_FAULTS)),
     ]
 
@@ -68,7 +73,7 @@ def plan_file(rng: Random) -> bytes:
 
 def plan_case(rng: Random) -> list[Question]:
     """One plan file for the checker."""
-    return [Question(CHECK, 0, plan_file(rng))]
+    return [Question(CHECK, idle_room(rng), plan_file(rng))]
 
 
 def accepted_file(rng: Random) -> bytes:
@@ -82,4 +87,4 @@ def chooser_case(rng: Random) -> list[Question]:
     proposed, running = (rng.choice((accepted_file, plan_file))(rng) for _ in range(2))
     if rng.random() < 0.1:
         proposed, running = rng.choice(((proposed, proposed), (proposed, b""), (b"", running), (b"", b"")))
-    return [Question(CHOOSE, 0, proposed, running)]
+    return [Question(CHOOSE, idle_room(rng), proposed, running)]

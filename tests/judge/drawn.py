@@ -106,9 +106,12 @@ def examples() -> dict[str, bool]:
     }
 
 
-def refusals_hold() -> bool:
-    """Whether the refusals named with their places hold for this judge's implementation."""
-    return all(request_verdict(altered(request, changes)) == verdict for request, changes, verdict in REFUSED)
+def refused() -> dict[str, bool]:
+    """The refusals named with their places: whether each holds for this judge's implementation."""
+    return {
+        f"verdict {verdict} for words {changes}": request_verdict(altered(request, changes)) == verdict
+        for request, changes, verdict in REFUSED
+    }
 
 
 def questions() -> list[Question]:

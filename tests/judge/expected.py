@@ -34,15 +34,22 @@ def listed(question: Question) -> Answer:
     return Answer(len(text), text + filler(question.room - len(text)))
 
 
+def told(question: Question) -> Answer:
+    """What the three calls give that write nothing: a number, and the buffer as it was if there is one."""
+    if question.call == READ:
+        number = refusals.as_number(refusals.request_verdict(question.first))
+    elif question.call == CHECK:
+        number = refusals.as_number(refusals.plan_verdict(question.first))
+    else:
+        assert question.call == CHOOSE
+        number = chooser.chosen(question.first, question.second)
+    return Answer(number, filler(question.room))
+
+
 def answer_to(question: Question) -> Answer:
     """The right answer to any question."""
-    if question.call == READ:
-        return Answer(refusals.as_number(refusals.request_verdict(question.first)))
     if question.call == WRITE:
         return written(question)
-    if question.call == CHECK:
-        return Answer(refusals.as_number(refusals.plan_verdict(question.first)))
-    if question.call == CHOOSE:
-        return Answer(chooser.chosen(question.first, question.second))
-    assert question.call == LIST
-    return listed(question)
+    if question.call == LIST:
+        return listed(question)
+    return told(question)

@@ -6,7 +6,7 @@ import sys
 from typing import BinaryIO
 
 import expected
-from ask import CHECK, CHOOSE, LIST, LONGEST, READ, Question
+from ask import LIST, LONGEST, READ, Question
 
 
 def next_question(stream: BinaryIO) -> Question | None:
@@ -15,7 +15,7 @@ def next_question(stream: BinaryIO) -> Question | None:
     if len(head) < 8:
         return None
     call, room, *lengths = struct.unpack("<4H", head)
-    if not READ <= call <= LIST or max(room, *lengths) > LONGEST or (room and call in (READ, CHECK, CHOOSE)):
+    if not READ <= call <= LIST or max(room, *lengths) > LONGEST:
         return None
     files = [stream.read(length) for length in lengths]
     if [len(file) for file in files] != lengths:

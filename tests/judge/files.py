@@ -11,7 +11,6 @@ PORTS = 8
 CELLS = PORTS * PORTS
 LIMIT = 1 << 24
 BASE_LIMIT = 1 << 32
-REQUEST_SIZE = blocks.SIZE
 PLAN_SIZE = 3 * blocks.SIZE
 
 # Places of things in block 0.

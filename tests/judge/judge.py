@@ -6,7 +6,6 @@ import sys
 import time
 from collections import Counter
 from collections.abc import Callable, Iterator, Sequence
-from pathlib import Path
 
 import ask
 import cases
@@ -14,6 +13,7 @@ import crosscheck
 import drawn
 import expected
 import figures
+import refusals
 import report
 import rules_000
 import shrink
@@ -25,7 +25,9 @@ SECONDS_BETWEEN_LINES = 5.0
 # Below these sizes a run is a trial, and a refusal that was not met says nothing.
 FULL_REQUESTS, FULL_PLANS = 1000, 2000
 # What can come of each kind of question: refusal numbers and 0 for acceptance, or the file chosen.
-MEETABLE = {"requests": (*range(8), 16), "plan files": tuple(range(16)), "pairs": (0, 1, 2)}
+MEETABLE = {
+    "requests": (*range(8), 16), "listings": (*range(8), 16), "plan files": tuple(range(16)), "pairs": (0, 1, 2),
+}
 
 
 class Failed(Exception):
@@ -48,24 +50,30 @@ class Judge:
         self.asked += len(questions)
         return self.program(questions)
 
-    def differs(self, question: Question) -> bool:
-        """Whether the program answers otherwise than this judge; says now and then how far the search is."""
-        self.tried += 1
+    def now_and_then(self, line: str) -> None:
+        """Says how far the run is, unless something was said a moment ago."""
         if time.monotonic() - self.said > SECONDS_BETWEEN_LINES:
             self.said = time.monotonic()
-            print(f"judge: {self.tried} files tried", flush=True)
+            print(f"judge: {line}", flush=True)
+
+    def differs(self, question: Question) -> bool:
+        """Whether the program answers otherwise than this judge."""
+        self.tried += 1
+        self.now_and_then(f"{self.tried} files tried")
         return self.answerer([question])[0] != expected.answer_to(question)
 
-    def compare(self, questions: list[Question], name: Callable[[int], str]) -> None:
-        """Asks a batch and stops at the first answer that differs."""
+    def compare(self, questions: Sequence[Question], name: Callable[[int], str]) -> list[Answer | None]:
+        """Asks a batch and gives the answers; ends the run at the first one that differs."""
         wanted = [expected.answer_to(question) for question in questions]
         for at, (question, want) in enumerate(zip(questions, wanted)):
             self.count(question, want)
             if not crosscheck.consistent(question, want):
                 self.fail(question, [crosscheck.describe(question, want)], name(at))
-        for at, (question, want, got) in enumerate(zip(questions, wanted, self.answerer(questions))):
+        answers = self.answerer(questions)
+        for at, (question, want, got) in enumerate(zip(questions, wanted, answers)):
             if want != got:
                 self.fail(question, report.difference_lines(question, want, got, self.ending()), name(at))
+        return answers
 
     def count(self, question: Question, want: Answer) -> None:
         """Notes which refusal the question meets."""
@@ -75,6 +83,9 @@ class Judge:
             self.met["plan files"][want.number >> 32] += 1
         elif question.call == ask.CHOOSE:
             self.met["pairs"][want.number] += 1
+        elif question.call == ask.LIST:
+            refusal = refusals.SHORT_BUFFER if want.number == 0 else refusals.request_verdict(question.first)
+            self.met["listings"][refusal[0] if refusal else 0] += 1
 
     def fail(self, question: Question, lines: list[str], name: str) -> None:
         """Prints a difference, looks for a smaller one, keeps it, and ends the run."""
@@ -93,20 +104,24 @@ class Judge:
         self.compare(drawn.questions(), lambda at: f"drawn example, question {at}")
         print("judge: the drawn examples hold", flush=True)
 
-    def papers(self) -> bool:
-        """The comparisons with the two papers; the run goes on, as a small file shows a difference better."""
-        statements = [
-            *figures.report_statements(),
-            *figures.report_figure_1(self.answerer),
-            *figures.document_000(self.answerer),
-            *rules_000.section_v(self.answerer, self.seed),
-        ]
-        broken = [name for name, holds in statements if not holds]
-        for name in broken[:5]:
-            print(f"judge: not as the papers have it ({len(broken)} such): {name}", flush=True)
-        if not broken:
-            print(f"judge: {len(statements)} statements of the papers hold", flush=True)
-        return not broken
+    def papers(self) -> None:
+        """The comparisons with the two papers, each of whose questions is compared like any other."""
+        last: list[Question] = []
+
+        def answerer(questions: Sequence[Question]) -> list[Answer | None]:
+            last[:] = questions[-1:]
+            return self.compare(questions, lambda at: f"the papers, after {held} statements that hold")
+
+        held = 0
+        for name, holds in paper_statements(answerer, self.seed):
+            if not holds:
+                # Every answer was as expected, so it is this judge that does not keep to the papers.
+                lines = [f"judge: contradicts the papers, after {held} statements that hold: {name}"]
+                print("\n".join([*lines, *(line for question in last for line in report.keep(question))]))
+                raise Failed
+            held += 1
+            self.now_and_then(f"{held} statements of the papers hold")
+        print(f"judge: {held} statements of the papers hold", flush=True)
 
     def phase(self, name: str, count: int, case: cases.Case) -> None:
         """All cases of one kind."""
@@ -115,9 +130,7 @@ class Judge:
             batch = [(number, question) for number in numbers
                      for question in case(cases.dice(self.seed, name, number))]
             self.compare([question for _, question in batch], lambda at: f"{name} {batch[at][0]}")
-            if time.monotonic() - self.said > SECONDS_BETWEEN_LINES:
-                self.said = time.monotonic()
-                print(f"judge: {numbers[-1] + 1} of {count} {name}", flush=True)
+            self.now_and_then(f"{numbers[-1] + 1} of {count} {name}")
         print(f"judge: {count} of {count} {name}", flush=True)
 
     def never_met(self) -> Iterator[str]:
@@ -128,40 +141,78 @@ class Judge:
             yield from (f"{kind} {number}" for number in numbers if not met[number])
 
 
+def paper_statements(answerer: Answerer, seed: int) -> Iterator[tuple[str, bool]]:
+    """What the two papers say, one statement after the other, and whether the program's answers bear it out."""
+    yield from figures.report_statements()
+    yield from figures.report_figure_1(answerer)
+    yield from figures.document_000(answerer)
+    yield from rules_000.section_v(answerer, seed)
+
+
+def number_in(word: str) -> int:
+    """A count on the command line."""
+    if not (word.isascii() and word.isdigit()):
+        raise argparse.ArgumentTypeError(f"'{word}' is not a number, 0 or more")
+    return int(word)
+
+
+def seed_in(word: str) -> int:
+    """The seed on the command line; the word random draws one."""
+    if word == "random":
+        return random.SystemRandom().randrange(1 << 32)
+    if not (word.isascii() and word.isdigit()):
+        raise argparse.ArgumentTypeError(f"'{word}' is neither a number, 0 or more, nor the word random")
+    return int(word)
+
+
+def command_in(text: str) -> list[str]:
+    """The command to ask: a program and its arguments."""
+    if not text.split():
+        raise argparse.ArgumentTypeError("no program is named")
+    return text.split()
+
+
 def arguments() -> argparse.Namespace:
     """The command line."""
     parser = argparse.ArgumentParser(description="Compares the program with a separate implementation.")
-    parser.add_argument("--seed", default=str(SEED), help="a number, or the word random")
-    parser.add_argument("--requests", type=int, default=3000)
-    parser.add_argument("--plans", type=int, default=4000)
-    parser.add_argument("--program", default="tools/run answers", help="the command to ask")
+    parser.add_argument("--seed", type=seed_in, default=SEED, help="a number, or the word random")
+    parser.add_argument("--requests", type=number_in, default=3000, help="how many random requests")
+    parser.add_argument("--plans", type=number_in, default=4000, help="how many random plan files")
+    parser.add_argument("--program", type=command_in, default="tools/run answers", help="the command to ask")
     return parser.parse_args()
+
+
+def all_phases(judge: Judge, requests: int, plans: int) -> None:
+    """Everything that is asked in one run."""
+    # First, since here a program that ends or hangs is told at its first missing answer.
+    judge.drawn_examples()
+    judge.papers()
+    judge.phase("requests", requests, cases.request_case)
+    judge.phase("plan files", plans, cases.plan_case)
+    judge.phase("pairs of plan files", plans // 4, cases.chooser_case)
 
 
 def main() -> int:
     """Runs all phases; 0 only if nothing differed and every refusal was met."""
     options = arguments()
-    seed = random.SystemRandom().randrange(1 << 32) if options.seed == "random" else int(options.seed)
-    print(f"judge: seed {seed}", flush=True)
-    command = options.program.split()
-    if not Path(command[0]).is_file():
-        print(f"judge: there is no program {command[0]}")
-        return 1
-    program = ask.Program(command)
-    judge = Judge(program.ask, seed, lambda: program.ending)
+    print(f"judge: seed {options.seed}", flush=True)
+    program = ask.Program(options.program)
+    judge = Judge(program.ask, options.seed, lambda: program.ending)
     try:
-        as_in_papers = judge.papers()
-        judge.drawn_examples()
-        judge.phase("requests", options.requests, cases.request_case)
-        judge.phase("plan files", options.plans, cases.plan_case)
-        judge.phase("pairs of plan files", options.plans // 4, cases.chooser_case)
+        program.start()
+        all_phases(judge, options.requests, options.plans)
+        fault = program.finish()
     except Failed:
+        return 1
+    except OSError as error:
+        print(f"judge: {error.filename or 'the program'}: {error.strerror}")
         return 1
     finally:
         program.stop()
-    missing = list(judge.never_met())
-    if not as_in_papers:
+    if fault:
+        print(f"judge: after the last answer: {fault}")
         return 1
+    missing = list(judge.never_met())
     if missing and options.requests >= FULL_REQUESTS and options.plans >= FULL_PLANS:
         print(f"judge: never met: {', '.join(missing)}")
         return 1

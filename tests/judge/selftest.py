@@ -2,7 +2,8 @@
 
 import random
 import sys
-from collections.abc import Sequence
+from collections.abc import Iterable, Sequence
+from dataclasses import replace
 from itertools import product
 from pathlib import Path
 
@@ -32,9 +33,17 @@ def right(questions: Sequence[Question]) -> list[Answer | None]:
     return [expected.answer_to(question) for question in questions]
 
 
+def all_hold(statements: Iterable[tuple[str, bool]]) -> bool:
+    """Whether every statement holds; the first of those that do not are named."""
+    broken = [name for name, holds in statements if not holds]
+    for name in broken[:5]:
+        print(f"selftest: does not hold ({len(broken)} such): {name}")
+    return not broken
+
+
 def drawn_examples() -> bool:
     """P1 to P12 and the refusals named beside them."""
-    return all(drawn.examples().values()) and drawn.refusals_hold()
+    return all_hold([*drawn.examples().items(), *drawn.refused().items()])
 
 
 def papers() -> bool:
@@ -46,7 +55,7 @@ def papers() -> bool:
         by_report = files.over_least_base(mmf.flat(mmf.fra(request)[0]), [0] * files.CELLS)
         same = fairness.same_rates(by_report, waterfill.plan_of(request))
         statements.append((f"the report's algorithm on request {number}", same))
-    return all(holds for _, holds in statements)
+    return all_hold(statements)
 
 
 def allocations(request: Request, base: int) -> list[Plan]:
@@ -138,7 +147,7 @@ def with_full_for_bottleneck(questions: Sequence[Question]) -> list[Answer | Non
             u = (number & blocks.MASK) // PORTS
             plan, request = files.plan_in(words), files.request_in(words)
             full = sum(plan.numerators[PORTS * u : PORTS * (u + 1)]) == request.inputs[u] * plan.base
-            answers[at] = Answer(0) if full else answers[at]
+            answers[at] = replace(answers[at], number=0) if full else answers[at]
     return answers
 
 

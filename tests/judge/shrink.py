@@ -9,8 +9,8 @@ import blocks
 import smaller
 from ask import LIST, LONGEST, Question
 from listing import listing_of
+from smaller import Change
 
-Change = Callable[[list[int]], bool]
 Move = Callable[[Question], Question | None]
 SECONDS = 30.0
 

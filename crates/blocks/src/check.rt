@@ -1,6 +1,6 @@
 // The check of a block: a running sum over its content, kept in its last word.
 ghost use mathlib.Core.Path.{_≡_};
-ghost use Rattle.blocks.specs.Check.{rotated, taken, check, sealed, startOf, wordIn, sealedIn};
+ghost use Rattle.words.specs.Check.{rotated, taken, check, sealed, startOf, wordIn, sealedIn};
 use crate::word::put;
 use crate::word::word;
 

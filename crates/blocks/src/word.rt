@@ -1,7 +1,7 @@
 // Words of 32 bits in a row of bytes, the least significant byte first.
 ghost use mathlib.Core.Path.{_≡_};
 ghost use Prim.Native.Nat.{_<_};
-ghost use Rattle.blocks.specs.Words.{wordAt, withWord};
+ghost use Rattle.words.specs.Words.{wordAt, withWord};
 
 // A byte as a word: its contract says that it is small, so that no sum of four has to be shown to fit by hand.
 fn wide(byte: u8) -> u32

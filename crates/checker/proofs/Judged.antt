@@ -1,6 +1,6 @@
 -- The chain in which a program asks the rows of a request with a plan says what the rows say.
 use mathlib.Core.List.{[], _∷_}
-use mathlib.Core.Path.{_≡_, refl, sym, _∙_, ap, ap₂}
+use mathlib.Core.Path.{_≡_, refl, sym, _∙_, ap}
 use Rattle.switch.specs.RequestRows.{portsRow, capacityRow, demandRow, notZeroRow, requestVerdict}
 use Rattle.switch.specs.Rows.{joined, rowVerdict, orElse, verdictOf}
 use Rattle.switch.specs.Within.{Within}
@@ -10,11 +10,11 @@ use Rattle.switch.specs.declared.verdict.Verdict.{Verdict}
 use Rattle.switch.specs.declared.verdict.Verdict.the-variants.{Accepted}
 use Rattle.switch.proofs.Rows.{or-else-assoc, or-else-under, accepts-both, verdict-append, joined-verdict, verdict-joined, row-accepted-exactly}
 use Rattle.switch.proofs.Within.{within-of-accepted}
-use Rattle.checker.specs.PlanWithin.{PlanWithin}
-use Rattle.checker.specs.PlanRows.{halfNotZero, baseRow, rateRows, judged}
-use Rattle.checker.specs.Worked.{ratesWorked}
-use Rattle.checker.proofs.Accepted.{plan-within-of-silent}
-use Rattle.checker.proofs.Exact.{worked-as-defined}
+use Rattle.judging.specs.PlanWithin.{PlanWithin}
+use Rattle.judging.specs.PlanRows.{halfNotZero, baseRow, rateRows, judged}
+use Rattle.worked.specs.Worked.{ratesWorked}
+use Rattle.judging.proofs.Accepted.{plan-within-of-silent}
+use Rattle.worked.proofs.Exact.{worked-as-defined}
 
 -- What is worked out is heard only of a request and a plan within their limits.
 pub rates-heard : (v : Verdict) (r : Request) (p : Plan) → (v ≡ Accepted → Within r × PlanWithin r p)

@@ -1,10 +1,4 @@
--- What follows from the definitions of this crate.
+-- What follows from how the checker works its rows out.
 pub mod Weighed
 pub mod Unused
-pub mod Flows
-pub mod Exact
-pub mod Accepted
 pub mod Judged
-pub mod Fault
-pub mod Drawn
-pub mod Shown

@@ -15,7 +15,7 @@ use Rattle.switch.specs.Tables.{usedAt, usedEnd, FirstAbove}
 use Rattle.switch.specs.declared.verdict.Cause.the-variants.{NotZero}
 use Rattle.switch.proofs.Search.{Passed, Sought, sought-more, sought-refuses}
 use Rattle.switch.proofs.Stretch.{used-before-end}
-use Rattle.checker.specs.PlanRows.{cellIn}
+use Rattle.judging.specs.PlanRows.{cellIn}
 
 module _ (m n half : ℕ) (xs : List ℕ) (place : ℕ → ℕ) where
   -- The row of the half's unused cells that are not 0 in a table.

@@ -7,9 +7,9 @@ use lib.ListN.{length}
 use Rattle.switch.specs.Rows.{rowVerdict}
 use Rattle.switch.specs.declared.verdict.Cause.{Cause}
 use Rattle.switch.specs.declared.verdict.Verdict.{Verdict}
-use Rattle.checker.specs.Worked.{moreRow, levels}
-use Rattle.checker.specs.declared.side.Side.{Side}
-use Rattle.checker.specs.declared.side.Weighed.{Weighed}
+use Rattle.worked.specs.Worked.{moreRow, levels}
+use Rattle.worked.specs.declared.side.Side.{Side}
+use Rattle.worked.specs.declared.side.Weighed.{Weighed}
 
 -- `full` and `side` are what two calls gave, and the others what their contracts say that it is.
 module _ {full full' : List ℕ} {side side' : Side} (scale : full ≡ full') (sums : side ≡ side')

@@ -1,10 +1,10 @@
 // The judgement of a plan for its request.
 ghost use mathlib.Core.Path.{_≡_};
-ghost use Rattle.checker.specs.PlanRows.{judged};
+ghost use Rattle.judging.specs.PlanRows.{judged};
 use crate::format::base_row;
 use crate::format::unused;
 use crate::rates::rates;
-use switch::check::check;
+use requests::check::check;
 use switch::plan::Plan;
 use switch::request::Request;
 use switch::verdict::Verdict;

@@ -3,7 +3,7 @@
 ghost use mathlib.Core.Path.{_≡_};
 ghost use lib.ListN.{length};
 ghost use Rattle.switch.specs.Rows.{firstOf, rowVerdict};
-ghost use Rattle.checker.specs.Worked.{rangeWorked, below, freeRow, cellFound, reasonBy, reasonsRow, ratesWorked};
+ghost use Rattle.worked.specs.Worked.{rangeWorked, below, freeRow, cellFound, reasonBy, reasonsRow, ratesWorked};
 use crate::side::more_row;
 use crate::side::scale;
 use crate::side::weigh_inputs;

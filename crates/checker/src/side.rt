@@ -5,7 +5,7 @@ ghost use mathlib.Core.Path.{_≡_};
 ghost use Prim.Native.Nat.{_<_};
 ghost use lib.ListN.{length};
 ghost use Rattle.switch.specs.Rows.{rowVerdict};
-ghost use Rattle.checker.specs.Worked.{scaled, inputSide, outputSide, levelOf, levels, moreRow, inputsWeighed, outputsWeighed};
+ghost use Rattle.worked.specs.Worked.{scaled, inputSide, outputSide, levelOf, levels, moreRow, inputsWeighed, outputsWeighed};
 use shares::arithmetic::times;
 use shares::port::input_port;
 use shares::port::output_port;
@@ -15,21 +15,10 @@ use switch::port::Output;
 use switch::verdict::Cause;
 use switch::verdict::Verdict;
 use switch::verdict::refused;
+use worked::side::Side;
+use worked::side::Weighed;
 
 const LARGEST: u64 = 18_446_744_073_709_551_615;
-
-// The sum of each port's numerators, and the largest of them.
-pub struct Side {
-    pub sums: [u64; 8],
-    pub mosts: [u64; 8],
-}
-
-// What rows 12 to 15 ask of a side: whether one of its ports carries too much, and from which numerator on each holds a flow
-// back.
-pub struct Weighed {
-    pub over: Verdict,
-    pub levels: [u64; 8],
-}
 
 // A table of capacities or demands, over the base.
 pub fn scale(table: &[u32], base: u64, wide: &mut [u64])

@@ -1,9 +1,9 @@
 // What a program in C calls. A row of bytes comes as a pointer and a length; nothing is asked of the bytes.
 ghost use mathlib.Core.Path.{_≡_};
-ghost use Rattle.files.specs.PlanFile.{checkVerdict};
-ghost use Rattle.files.specs.RequestFile.{readVerdict};
-ghost use Rattle.listing.specs.Listing.{listed, listedIn};
-ghost use Rattle.export.specs.Code.{codeOf, planVerdict, planLaid, choiceOf};
+ghost use Rattle.formats.specs.PlanFile.{checkVerdict};
+ghost use Rattle.formats.specs.RequestFile.{readVerdict};
+ghost use Rattle.texts.specs.Listing.{listed, listedIn};
+ghost use Rattle.codes.specs.Code.{codeOf, planVerdict, planLaid, choiceOf};
 use crate::code::code;
 use files::check::check;
 use files::plan::write_plan;

@@ -2,7 +2,7 @@
 ghost use Prim.Native.Nat.{_+_, _*_, _<_};
 ghost use mathlib.Core.Path.{_≡_};
 ghost use Rattle.switch.specs.Numbering.{numberOf};
-ghost use Rattle.export.specs.Code.{codeOf, Placed};
+ghost use Rattle.codes.specs.Code.{codeOf, Placed};
 use switch::verdict::Cause;
 use switch::verdict::Verdict;
 

@@ -14,13 +14,13 @@ use Rattle.switch.specs.declared.verdict.Verdict.{Verdict}
 use Rattle.switch.specs.declared.verdict.Verdict.the-variants.{Accepted}
 use Rattle.switch.proofs.Rows.{or-else-assoc, accepts-both, verdict-append, joined-verdict, verdict-joined, silent-here, accepted-exactly}
 use Rattle.switch.proofs.Within.{within-of-accepted}
-use Rattle.checker.specs.PlanWithin.{PlanWithin}
-use Rattle.checker.specs.PlanRows.{halfNotZero, baseRow, rateRows}
-use Rattle.checker.specs.Worked.{ratesWorked}
+use Rattle.judging.specs.PlanWithin.{PlanWithin}
+use Rattle.judging.specs.PlanRows.{halfNotZero, baseRow, rateRows}
+use Rattle.worked.specs.Worked.{ratesWorked}
 use Rattle.checker.proofs.Judged.{rates-heard, plan-within-of-accepted}
-use Rattle.files.specs.FileRows.{lengthRow, checkRow, kindRow, spareRow}
-use Rattle.files.specs.RequestFile.{requestIn}
-use Rattle.files.specs.PlanFile.{planIn, baseDiffersRow, planFileRows, checkVerdict}
+use Rattle.formats.specs.FileRows.{lengthRow, checkRow, kindRow, spareRow}
+use Rattle.formats.specs.RequestFile.{requestIn}
+use Rattle.formats.specs.PlanFile.{planIn, baseDiffersRow, planFileRows, checkVerdict}
 
 -- Both parts of a row that accepts do.
 parts-accept : (a b : Row) → a .cause ≡ b .cause → rowVerdict (joined a b) ≡ Accepted

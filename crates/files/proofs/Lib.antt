@@ -1,14 +1,2 @@
--- What follows from the definitions of files.
-pub mod Content
-pub mod Sound
-pub mod RequestFile
-pub mod PlanContent
-pub mod PlanSound
+-- What the check of a plan file rests on beside its rows.
 pub mod Checked
-pub mod Checking
-pub mod PlanWritten
-pub mod PlanFault
-pub mod Saving
-pub mod Fault
-pub mod Shown
-pub mod PlanShown

@@ -1,6 +1,6 @@
 // The check of a plan file.
 ghost use mathlib.Core.Path.{_≡_};
-ghost use Rattle.files.specs.PlanFile.{checkVerdict};
+ghost use Rattle.formats.specs.PlanFile.{checkVerdict};
 use crate::format::base_rows;
 use crate::format::frame_rows;
 use crate::format::request_rows;

@@ -1,6 +1,6 @@
 // The choice of the plan to load, of a proposed and a running plan file.
 ghost use mathlib.Core.Path.{_≡_};
-ghost use Rattle.files.specs.Chosen.{chosen, chosenAt};
+ghost use Rattle.formats.specs.Chosen.{chosen, chosenAt};
 use crate::check::check;
 use switch::verdict::Verdict;
 

@@ -2,8 +2,8 @@
 ghost use mathlib.Core.Path.{_≡_};
 ghost use Rattle.switch.specs.Rows.{ifAccepted};
 ghost use Rattle.switch.specs.Values.{zeroRequest};
-ghost use Rattle.files.specs.RequestFile.{requestRead, requestWritten};
-ghost use Rattle.files.specs.Writing.{writeVerdict};
+ghost use Rattle.formats.specs.RequestFile.{requestRead, requestWritten};
+ghost use Rattle.formats.specs.Writing.{writeVerdict};
 use crate::layout::write_block;
 use crate::read::request_in;
 use crate::rows::check_row;
@@ -11,15 +11,10 @@ use crate::rows::kind_row;
 use crate::rows::length_row;
 use crate::rows::room_row;
 use crate::rows::spare_row;
-use switch::check::check;
+use formats::request::RequestRead;
+use requests::check::check;
 use switch::request::Request;
 use switch::verdict::Verdict;
-
-// What reading a file gives: a verdict, and the request, which is all zeros if the verdict refuses.
-pub struct RequestRead {
-    pub verdict: Verdict,
-    pub request: Request,
-}
 
 // The request, or zeros if it was refused.
 fn kept(verdict: Verdict, request: Request) -> Request

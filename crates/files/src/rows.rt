@@ -3,7 +3,7 @@ ghost use mathlib.Core.Path.{_≡_};
 ghost use Prim.Native.Nat.{_<_};
 ghost use lib.ListN.{length};
 ghost use Rattle.switch.specs.Rows.{rowVerdict};
-ghost use Rattle.files.specs.FileRows.{lengthRow, checkRow, kindRow, spareRow, roomRow};
+ghost use Rattle.formats.specs.FileRows.{lengthRow, checkRow, kindRow, spareRow, roomRow};
 use blocks::check::sealed;
 use blocks::check::start_of;
 use blocks::word::word;

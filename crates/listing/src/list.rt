@@ -2,8 +2,8 @@
 ghost use mathlib.Core.Path.{_≡_};
 ghost use Prim.Native.Nat.{_≤_};
 ghost use lib.ListN.{length, take};
-ghost use Rattle.listing.specs.Appended.{Appended};
-ghost use Rattle.listing.specs.Listing.{listingOf, listed, listedIn};
+ghost use Rattle.texts.specs.Appended.{Appended};
+ghost use Rattle.texts.specs.Listing.{listingOf, listed, listedIn};
 use crate::lines::plan_text;
 use crate::lines::refused_text;
 use crate::text::word;
@@ -12,17 +12,7 @@ use planner::plan::plan;
 use switch::verdict::Cause;
 use switch::verdict::Verdict;
 use switch::verdict::refused;
-
-// What listing gives: whether there was room for the text, and how many bytes it takes.
-pub struct Listed {
-    pub verdict: Verdict,
-    pub length: u32,
-}
-
-impl Listed {
-    // The longest text: a first line of 25 bytes, 64 lines of 33 bytes, and a last line of 7.
-    pub const LONGEST: usize = 2144;
-}
+use texts::list::Listed;
 
 // Room for the longest text: callers need to know no more than its length.
 fn blank() -> [u8; 2144]

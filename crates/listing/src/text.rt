@@ -2,8 +2,8 @@
 ghost use mathlib.Core.List.{[], _∷_, _++_};
 ghost use Prim.Native.Nat.{_+_, _≤_};
 ghost use lib.ListN.{length};
-ghost use Rattle.listing.specs.Appended.{Appended};
-ghost use Rattle.listing.specs.Decimal.{decimal};
+ghost use Rattle.texts.specs.Appended.{Appended};
+ghost use Rattle.texts.specs.Decimal.{decimal};
 
 // Bytes as they are.
 pub fn word(text: &mut [u8], at: usize, bytes: &[u8]) -> usize

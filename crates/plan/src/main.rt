@@ -1,6 +1,6 @@
 // The listing program: a request file on standard input, the text of its plan or of its refusal on standard output.
-use listing::list::Listed;
 use listing::list::list;
+use texts::list::Listed;
 
 // One byte more than a request file has is read, so that a longer file is seen to be longer.
 fn main() {
@@ -9,5 +9,7 @@ fn main() {
     let mut text = [0u8; Listed::LONGEST];
     let listed = list(&file[..size], &mut text);
     let length = listed.length as usize;
-    io::write_all(1, &text[..length]);
+    if !io::write_all(1, &text[..length]) {
+        io::write_all(2, b"plan: the listing could not be written\n");
+    }
 }

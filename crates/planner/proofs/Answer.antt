@@ -1,6 +1,6 @@
--- Fair rates, reduced and with their reasons, are the plan of the request; and the planner's answer is what document 01 says.
+-- Fair rates, reduced and with their reasons, are the plan of the request.
 use Prim.Native.Nat.{ℕ, _/_, _≤_, _<_}
-use mathlib.Core.Path.{_≡_, refl, sym, _∙_, subst}
+use mathlib.Core.Path.{_≡_, _∙_}
 use mathlib.Core.List.{List}
 use native.Mathlib.Nat.{div-le-self, le-trans}
 use native.Mathlib.Omega.{arith}
@@ -12,24 +12,15 @@ use Rattle.fairness.proofs.Divisors.{gcdOf-is}
 use Rattle.fairness.proofs.LeastBase.{divided-pos}
 use Rattle.fairness.proofs.Reduced.{reduced-same, reduced-least}
 use Rattle.fairness.proofs.Unique.{fair-of-same}
-use Rattle.switch.specs.Given.{Gives}
 use Rattle.switch.specs.Planned.{Right, problemOf, planFrom, planOf}
-use Rattle.switch.specs.RequestRows.{requestVerdict}
-use Rattle.switch.specs.Rows.{ifAccepted}
-use Rattle.switch.specs.Values.{emptyPlan}
 use Rattle.switch.specs.Within.{Within}
-use Rattle.switch.specs.declared.plan.Plan.{Plan}
 use Rattle.switch.specs.declared.request.Request.{Request}
-use Rattle.switch.specs.declared.verdict.Verdict.{Verdict}
-use Rattle.switch.specs.declared.verdict.Verdict.the-variants.{Accepted, Refused}
-use Rattle.switch.proofs.Fault.{request-fault}
-use Rattle.switch.proofs.Planned.{right-planFrom, right-planOf, right-is-planOf}
-use Rattle.switch.proofs.Within.{accepted-of-within, within-of-accepted}
-use Rattle.shares.specs.Reason.{reasonsAt}
-use Rattle.shares.specs.Reduced.{reducedBase, reducedNumerators}
-use Rattle.shares.proofs.Bottlenecks.{reasons-right}
+use Rattle.switch.proofs.Planned.{right-planFrom, right-is-planOf}
+use Rattle.worked.specs.Reason.{reasonsAt}
+use Rattle.worked.specs.Reduced.{reducedBase, reducedNumerators}
+use Rattle.worked.proofs.Bottlenecks.{reasons-right}
 use Rattle.planner.specs.Sizes.{mostBase}
-use Rattle.planner.specs.Planned.{planned, Promised, portsOf}
+use Rattle.planner.specs.Ports.{portsOf}
 use Rattle.planner.proofs.Ports.{fair-ports}
 
 module _ (r : Request) (within : Within r) (b : ℕ) (xs : List ℕ) (small : b ≤ mostBase) (long : length xs ≡ 64)
@@ -66,18 +57,3 @@ module _ (r : Request) (within : Within r) (b : ℕ) (xs : List ℕ) (small : b 
       → reasons ≡ reasonsAt (r .m) (r .n) (r .inputs) (r .demands) (reducedBase b xs) (reducedNumerators b xs)
       → record { base = reducedBase b xs; numerators = reducedNumerators b xs; reasons = reasons } ≡ planOf r
   plan-of-fair reasons e = with-reasons reasons e ∙ right-is-planOf r within _ right
-
--- What the answer means.
-empty-if-refused : (v : Verdict) (p : Plan) (k q : ℕ) → Gives v k q → ifAccepted v p emptyPlan ≡ emptyPlan
-empty-if-refused Accepted p k q given = absurd given
-empty-if-refused (Refused x) p k q given = refl
-
-pub planned-as-promised : (r : Request) → Promised r (planned r)
-planned-as-promised r =
-    record {
-      within = λ w.
-          let accepted = accepted-of-within r w in
-          (accepted, subst (λ (v : Verdict). Right r (ifAccepted v (planOf r) emptyPlan)) (sym accepted) (right-planOf r w));
-      accepted = within-of-accepted r;
-      refused = λ k q given. (request-fault r k q given, empty-if-refused (requestVerdict r) (planOf r) k q given);
-    }

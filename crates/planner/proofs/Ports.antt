@@ -27,7 +27,7 @@ use Rattle.switch.proofs.Sharing.{by-limit}
 use Rattle.switch.proofs.Small.{input-small, output-small, demand-small}
 use Rattle.planner.specs.Sizes.{mostAsked, mostParts}
 use Rattle.planner.specs.Limits.{through}
-use Rattle.planner.specs.Planned.{portsOf}
+use Rattle.planner.specs.Ports.{portsOf}
 use Rattle.planner.specs.Engine.{Modest}
 use Rattle.planner.proofs.Passing.{through-input, through-output, passes-input}
 use Rattle.fairness.proofs.SameProblem.{Agree, across-agree, fair-agree}

@@ -1,7 +1,7 @@
--- What the planner answers, and what its engine keeps.
-pub mod Planned
+-- What the planner's engine is handed, and what it keeps.
 pub mod Sizes
 pub mod Limits
 pub mod Areas
 pub mod Tables
 pub mod Engine
+pub mod Ports

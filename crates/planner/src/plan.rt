@@ -5,21 +5,16 @@ ghost use Rattle.switch.specs.Within.{Within};
 ghost use Rattle.switch.specs.Tables.{requestOf};
 ghost use Rattle.switch.specs.Planned.{capacityOf, planOf};
 ghost use mathlib.Core.List.{[]};
-ghost use Rattle.planner.specs.Planned.{planned, Promised};
+ghost use Rattle.switch.specs.Answer.{planned, Promised};
 use crate::fill::fill;
+use requests::check::check;
 use shares::divisor::reduce;
 use shares::reason::reasons;
-use switch::check::check;
 use switch::entry::entry;
 use switch::plan::Plan;
+use switch::plan::Planned;
 use switch::request::Request;
 use switch::verdict::Verdict;
-
-// What planning gives: a verdict, and the plan, which is the empty plan if the verdict refuses.
-pub struct Planned {
-    pub verdict: Verdict,
-    pub plan: Plan,
-}
 
 // The capacity of a port by the number of its limit.
 fn capacity(inputs: &[u32], outputs: &[u32], limit: u64) -> u64

@@ -2,7 +2,7 @@
 use mathlib.Core.Path.{_≡_}
 use Rattle.laws.proofs.Determined.{one-answer}
 use Rattle.promises.specs.Contract.{Settles}
-use Rattle.promises.specs.Calls.{BlocksCalls, SwitchCalls, SharesCalls, PlannerCalls, CheckerCalls, FilesCalls, ListingCalls, ExportCalls, Calls}
+use Rattle.promises.specs.Calls.{BlocksCalls, SwitchCalls, RequestsCalls, SharesCalls, PlannerCalls, CheckerCalls, FilesCalls, ListingCalls, ExportCalls, Calls}
 
 settles : {K : Type 0} {D Z E A : K → Type 0} {asked : (κ : K) → D κ → Type 0} {allowed : (κ : K) → D κ → Z κ → E κ → Type 0}
     {seen : (κ : K) → Z κ → E κ → A κ} {definition : (κ : K) → D κ → A κ} → ((κ : K) (a : D κ) → asked κ a)
@@ -41,6 +41,12 @@ switch =
       refused = settles (λ κ a. tt) (λ κ a z e p. p);
       or-else = settles (λ κ a. tt) (λ κ a z e p. p);
       number = settles (λ κ a. tt) (λ κ a z e p. p);
+      lesser = settles (λ κ a. tt) (λ κ a z e p. p);
+    }
+
+requests : RequestsCalls
+requests =
+    record {
       check = settles (λ κ a. tt) (λ κ a z e p. p);
     }
 
@@ -113,6 +119,7 @@ calls-settled =
     record {
       blocks = blocks;
       switch = switch;
+      requests = requests;
       shares = shares;
       planner = planner;
       checker = checker;

@@ -9,50 +9,75 @@ use Rattle.switch.specs.declared.plan.Plan.{Plan}
 use Rattle.switch.specs.declared.verdict.Verdict.{Verdict}
 use Rattle.switch.specs.declared.verdict.Verdict.the-variants.{Accepted}
 use Rattle.switch.proofs.Fault.{request-fault}
+use Rattle.switch.proofs.Noticed.{request-first, request-none}
 use Rattle.switch.proofs.Numbering.{request-rows-in-order}
 use Rattle.switch.proofs.Planned.{base-of-planOf}
 use Rattle.switch.proofs.Rows.{given-exactly}
 use Rattle.switch.proofs.Within.{accepted-of-within, within-of-accepted}
-use Rattle.checker.specs.PlanRows.{judged}
-use Rattle.checker.proofs.Shown.{judging-shown}
-use Rattle.files.specs.PlanFile.{planFile, checkVerdict}
-use Rattle.files.specs.RequestFile.{requestFile}
-use Rattle.files.proofs.PlanShown.{checking-shown, plan-writing-shown}
-use Rattle.files.proofs.RequestFile.{length-file, read-accepts-written}
-use Rattle.files.proofs.Shown.{refusals-shown}
-use Rattle.listing.proofs.Shown.{listing-shown}
-use Rattle.export.proofs.Shown.{exporting-shown}
+use Rattle.judging.specs.PlanRows.{judged}
+use Rattle.judging.proofs.Shown.{judging-shown}
+use Rattle.formats.specs.PlanFile.{planFile, checkVerdict}
+use Rattle.formats.specs.RequestFile.{requestFile}
+use Rattle.formats.proofs.PlanShown.{checking-shown, plan-writing-shown}
+use Rattle.formats.proofs.RequestFile.{length-file, read-accepts-written}
+use Rattle.formats.proofs.Shown.{refusals-shown}
+use Rattle.texts.proofs.Shown.{listing-shown}
+use Rattle.codes.specs.Code.{planRows}
+use Rattle.codes.proofs.Fault.{laid-fault, laid-first, laid-none}
+use Rattle.codes.proofs.Shown.{exporting-shown}
 use Rattle.promises.specs.Demand1.{Demand1}
-use Rattle.promises.proofs.Answer.{plan-within}
+use Rattle.switch.proofs.Answer.{plan-within}
 
 pub demand1-kept : Demand1
 demand1-kept =
     record {
       planning = λ r.
-          record { exactly = given-exactly (requestRows r); order = request-rows-in-order r; named = request-fault r };
+          record {
+            exactly = given-exactly (requestRows r);
+            order = request-rows-in-order r;
+            named = request-fault r;
+            first = request-first r;
+            none = request-none r;
+          };
       reading = λ file.
           record {
             exactly = refusals-shown .read-gives file;
             order = refusals-shown .read-order file;
             named = refusals-shown .read-fault file;
+            first = refusals-shown .read-first file;
+            none = refusals-shown .read-none file;
           };
       writing = λ size r buffer.
           record {
             exactly = refusals-shown .write-gives size r buffer;
             order = refusals-shown .write-order size r buffer;
             named = refusals-shown .write-fault size r buffer;
+            first = refusals-shown .write-first size r buffer;
+            none = refusals-shown .write-none size r buffer;
           };
       judging = λ r p.
           record {
             exactly = judging-shown .gives r p;
             order = judging-shown .order r p;
             named = judging-shown .fault r p;
+            first = judging-shown .first r p;
+            none = judging-shown .none r p;
           };
       checking = λ file.
           record {
             exactly = checking-shown .gives file;
             order = checking-shown .order file;
             named = checking-shown .fault file;
+            first = checking-shown .first file;
+            none = checking-shown .none file;
+          };
+      exporting = λ file buffer.
+          record {
+            exactly = given-exactly (planRows file buffer);
+            order = exporting-shown .order file buffer;
+            named = laid-fault file buffer;
+            first = laid-first file buffer;
+            none = laid-none file buffer;
           };
       request-not-written = λ r. refusals-shown .refused-write 512 (requestFile r) r;
       plan-not-written = plan-writing-shown .refused;

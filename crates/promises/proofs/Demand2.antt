@@ -16,20 +16,20 @@ use Rattle.switch.specs.declared.verdict.Verdict.the-variants.{Accepted}
 use Rattle.switch.proofs.Fair.{fair-exactly-when-settled}
 use Rattle.switch.proofs.Planned.{right-unique, beyond-the-cells}
 use Rattle.switch.proofs.SameRates.{fair-exactly-planned}
-use Rattle.planner.specs.Planned.{planned}
-use Rattle.planner.proofs.Answer.{planned-as-promised}
-use Rattle.checker.proofs.Shown.{judging-shown}
-use Rattle.files.specs.PlanFile.{planIn, checkVerdict, planWritten}
-use Rattle.files.specs.RequestFile.{requestIn}
-use Rattle.files.specs.Writing.{writeVerdict}
-use Rattle.files.proofs.Checking.{well-formed-of-accepted}
-use Rattle.files.proofs.PlanShown.{checking-shown, plan-writing-shown, choosing-shown}
-use Rattle.files.proofs.PlanSound.{sound-of-well-formed}
-use Rattle.files.proofs.Shown.{saved-and-read-shown}
-use Rattle.listing.specs.Listing.{planText}
-use Rattle.listing.proofs.Shown.{listing-shown}
+use Rattle.switch.specs.Answer.{planned}
+use Rattle.switch.proofs.Answer.{planned-as-promised}
+use Rattle.judging.proofs.Shown.{judging-shown}
+use Rattle.formats.specs.PlanFile.{planIn, checkVerdict, planWritten}
+use Rattle.formats.specs.RequestFile.{requestIn}
+use Rattle.formats.specs.Writing.{writeVerdict}
+use Rattle.formats.proofs.Checking.{well-formed-of-accepted}
+use Rattle.formats.proofs.PlanShown.{checking-shown, plan-writing-shown, choosing-shown}
+use Rattle.formats.proofs.PlanSound.{sound-of-well-formed}
+use Rattle.formats.proofs.Shown.{saved-and-read-shown}
+use Rattle.texts.specs.Listing.{planText}
+use Rattle.texts.proofs.Shown.{listing-shown}
 use Rattle.promises.specs.Demand2.{Demand2}
-use Rattle.promises.proofs.Answer.{plan-within}
+use Rattle.switch.proofs.Answer.{plan-within}
 
 right : (r : Request) → Within r → Right r (planned r .plan)
 right r w = planned-as-promised r .within w .1

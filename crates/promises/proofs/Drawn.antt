@@ -1,7 +1,7 @@
 -- The table of the drawn examples, from what was worked out where each definition stands.
 use mathlib.Core.List.{List, [], _∷_, List·Memᴰ, List·Memᴰ·head, List·Memᴰ·tail}
 use mathlib.Core.Path.{_≡_, refl, sym, subst}
-use Rattle.blocks.proofs.Sealed.{empty-block-checks}
+use Rattle.words.proofs.Sealed.{empty-block-checks}
 use Rattle.switch.specs.Drawn.{rows, Example, drawnPlans}
 use Rattle.switch.specs.Given.{Gives}
 use Rattle.switch.specs.Planned.{planOf}
@@ -11,10 +11,10 @@ use Rattle.switch.specs.Values.{emptyPlan}
 use Rattle.switch.specs.declared.verdict.Verdict.{Verdict}
 use Rattle.switch.specs.declared.verdict.Verdict.the-variants.{Accepted}
 use Rattle.switch.proofs.Drawn.{drawn-plans-are-right}
-use Rattle.checker.specs.Drawn.{Offered, offered}
-use Rattle.checker.specs.PlanRows.{judged}
-use Rattle.checker.proofs.Drawn.{drawn-verdicts}
-use Rattle.listing.proofs.Shown.{listing-shown}
+use Rattle.judging.specs.Drawn.{Offered, offered}
+use Rattle.judging.specs.PlanRows.{judged}
+use Rattle.judging.proofs.Drawn.{drawn-verdicts}
+use Rattle.texts.proofs.Shown.{listing-shown}
 use Rattle.promises.specs.Drawn.{Planned, DrawnTable}
 
 gets : (e : Example) → requestVerdict (e .request) ≡ Accepted → planOf (e .request) ≡ e .plan → Planned e

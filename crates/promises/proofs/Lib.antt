@@ -1,5 +1,4 @@
 -- That what was promised is kept.
-pub mod Answer
 pub mod Demand1
 pub mod Demand2
 pub mod Demand3

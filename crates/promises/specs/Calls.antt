@@ -2,33 +2,33 @@
 -- the source (`Asked` is what its `requires` asks of a caller, `Post` what its `ensures` allows), what a caller sees of an outcome,
 -- and the definition that this is. Arguments and final states have one part for each parameter, in their order, and `now` is what
 -- a reference refers to. Of a slice that is handed back a caller sees its bytes and its place in memory, and no more.
-use Prim.Native.Nat.{_+_, _*_}
+use Prim.Native.Nat.{_+_, _*_, min}
 use mathlib.Core.Bool.{cond}
 use mathlib.Core.List.{[]}
 use lib.ListN.{getD}
 use denote.Ref.{now}
 use Rattle.fairness.specs.Divisor.{gcd, gcdOf}
-use Rattle.blocks.specs.Words.{wordAt, withWord}
-use Rattle.blocks.specs.Check.{startOf, check, wordIn, sealed, sealedIn}
+use Rattle.words.specs.Words.{wordAt, withWord}
+use Rattle.words.specs.Check.{startOf, check, wordIn, sealed, sealedIn}
 use Rattle.switch.specs.Cells.{cellOf, inputOf, outputOf, inputLimit, outputLimit, demandOf}
 use Rattle.switch.specs.Numbering.{numberOf}
 use Rattle.switch.specs.RequestRows.{requestVerdict}
 use Rattle.switch.specs.Rows.{refusal, orElse, rowVerdict}
 use Rattle.switch.specs.Tables.{usedEnd, requestOf}
 use Rattle.switch.specs.Values.{zeroRequest, emptyPlan}
-use Rattle.shares.specs.Port.{inputPort, outputPort}
-use Rattle.shares.specs.Reason.{holds, reasonFrom, reasonsAt}
-use Rattle.shares.specs.Reduced.{reducedBase, reducedNumerators}
-use Rattle.shares.specs.Saturated.{capped, ports}
-use Rattle.planner.specs.Planned.{planned}
-use Rattle.checker.specs.PlanRows.{planWith, halfNotZero, baseRow, judged}
-use Rattle.checker.specs.Worked.{ratesWorked}
-use Rattle.files.specs.Chosen.{chosen, chosenAt}
-use Rattle.files.specs.PlanFile.{checkVerdict, planWritten}
-use Rattle.files.specs.RequestFile.{readVerdict, requestRead, requestWritten}
-use Rattle.files.specs.Writing.{writeVerdict}
-use Rattle.listing.specs.Listing.{listed, listedIn}
-use Rattle.export.specs.Code.{codeOf, planVerdict, planLaid, choiceOf}
+use Rattle.worked.specs.Port.{inputPort, outputPort}
+use Rattle.worked.specs.Reason.{holds, reasonFrom, reasonsAt}
+use Rattle.worked.specs.Reduced.{reducedBase, reducedNumerators}
+use Rattle.worked.specs.Saturated.{capped, ports}
+use Rattle.switch.specs.Answer.{planned}
+use Rattle.judging.specs.PlanRows.{planWith, halfNotZero, baseRow, judged}
+use Rattle.worked.specs.Worked.{ratesWorked}
+use Rattle.formats.specs.Chosen.{chosen, chosenAt}
+use Rattle.formats.specs.PlanFile.{checkVerdict, planWritten}
+use Rattle.formats.specs.RequestFile.{readVerdict, requestRead, requestWritten}
+use Rattle.formats.specs.Writing.{writeVerdict}
+use Rattle.texts.specs.Listing.{listed, listedIn}
+use Rattle.codes.specs.Code.{codeOf, planVerdict, planLaid, choiceOf}
 use Rattle.promises.specs.Contract.{Settles}
 use Rattle.blocks.proofs.word.word.Reads as Word
 use Rattle.blocks.proofs.word.put.Reads as Put
@@ -49,7 +49,8 @@ use Rattle.switch.proofs.plan.Plan.empty.Reads as Empty
 use Rattle.switch.proofs.verdict.refused.Reads as Refused
 use Rattle.switch.proofs.verdict.Verdict.or_else.Reads as OrElse
 use Rattle.switch.proofs.verdict.Cause.number.Reads as Number
-use Rattle.switch.proofs.check.check.Reads as RequestCheck
+use Rattle.switch.proofs.number.lesser.Reads as Lesser
+use Rattle.requests.proofs.check.check.Reads as RequestCheck
 use Rattle.shares.proofs.arithmetic.plus.Reads as Plus
 use Rattle.shares.proofs.arithmetic.times.Reads as Times
 use Rattle.shares.proofs.count.ports.Reads as Ports
@@ -98,11 +99,14 @@ pub record SwitchCalls : Type 0 where
   pub input-limit : Settles InputLimit.Asked InputLimit.Post (λ κ z e. z) (λ κ (u, _). inputLimit u)
   pub output-limit : Settles OutputLimit.Asked OutputLimit.Post (λ κ z e. z) (λ κ (v, _). outputLimit v)
   pub zero : Settles Zero.Asked Zero.Post (λ κ z e. z) (λ κ a. zeroRequest)
-  pub demand : Settles Demand.Asked Demand.Post (λ κ z e. z) (λ κ (request, (u, (v, _))). demandOf request (cellOf u v))
+  pub demand : Settles Demand.Asked Demand.Post (λ κ z e. z) (λ κ (request, (cell, _)). demandOf request cell)
   pub empty : Settles Empty.Asked Empty.Post (λ κ z e. z) (λ κ a. emptyPlan)
   pub refused : Settles Refused.Asked Refused.Post (λ κ z e. z) (λ κ (cause, (place, _)). refusal cause place)
   pub or-else : Settles OrElse.Asked OrElse.Post (λ κ z e. z) (λ κ (first, (next, _)). orElse first next)
   pub number : Settles Number.Asked Number.Post (λ κ z e. z) (λ κ (cause, _). numberOf cause)
+  pub lesser : Settles Lesser.Asked Lesser.Post (λ κ z e. z) (λ κ (x, (y, _)). min x y)
+
+pub record RequestsCalls : Type 0 where
   pub check : Settles RequestCheck.Asked RequestCheck.Post (λ κ z e. z) (λ κ (request, _). requestVerdict request)
 
 pub record SharesCalls : Type 0 where
@@ -170,6 +174,7 @@ pub record ExportCalls : Type 0 where
 pub record Calls : Type 0 where
   pub blocks : BlocksCalls
   pub switch : SwitchCalls
+  pub requests : RequestsCalls
   pub shares : SharesCalls
   pub planner : PlannerCalls
   pub checker : CheckerCalls

@@ -4,7 +4,7 @@
 -- of every function before anything else. The rest is here, for the definitions by which the calls answer (`Calls`).
 use Prim.Native.Nat.{ℕ, _≤_, _<_}
 use mathlib.Core.List.{List, [], _∷_}
-use mathlib.Core.Logic.{_↔_}
+use mathlib.Core.Logic.{_⊎_, _↔_}
 use mathlib.Core.Path.{_≡_}
 use lib.ListN.{length, drop}
 use Rattle.switch.specs.Fault.{Fault}
@@ -19,18 +19,20 @@ use Rattle.switch.specs.declared.request.Request.{Request}
 use Rattle.switch.specs.declared.verdict.Refusal.{Refusal}
 use Rattle.switch.specs.declared.verdict.Verdict.{Verdict}
 use Rattle.switch.specs.declared.verdict.Verdict.the-variants.{Accepted, Refused}
-use Rattle.planner.specs.Planned.{planned}
-use Rattle.checker.specs.Fault.{PlanFault}
-use Rattle.checker.specs.PlanRows.{judgeRows, judged}
-use Rattle.files.specs.Fault.{FileFault, WriteFault}
-use Rattle.files.specs.PlanFault.{PlanFileFault}
-use Rattle.files.specs.PlanFile.{planFile, planFileRows, checkVerdict, planWritten}
-use Rattle.files.specs.RequestFile.{requestFile, requestFileRows, requestRead, requestWritten}
-use Rattle.files.specs.Writing.{writeRows, writeVerdict}
-use Rattle.listing.specs.Ascii.{ascii}
-use Rattle.listing.specs.Decimal.{decimal}
-use Rattle.listing.specs.Listing.{line, listingOf, listed, listedIn}
-use Rattle.export.specs.Shown.{Exporting}
+use Rattle.switch.specs.Answer.{planned}
+use Rattle.judging.specs.Fault.{PlanFault}
+use Rattle.judging.specs.PlanRows.{judgeRows, judged}
+use Rattle.formats.specs.Fault.{FileFault, WriteFault}
+use Rattle.formats.specs.PlanFault.{PlanFileFault}
+use Rattle.formats.specs.PlanFile.{planFile, planFileRows, checkVerdict, planWritten}
+use Rattle.formats.specs.RequestFile.{requestFile, requestFileRows, requestRead, requestWritten}
+use Rattle.formats.specs.Writing.{writeRows, writeVerdict}
+use Rattle.texts.specs.Ascii.{ascii}
+use Rattle.texts.specs.Decimal.{decimal}
+use Rattle.texts.specs.Listing.{line, listingOf, listed, listedIn}
+use Rattle.codes.specs.Code.{planRows, planVerdict}
+use Rattle.codes.specs.Fault.{LaidFault}
+use Rattle.codes.specs.Shown.{Exporting}
 
 -- A verdict follows these rows of the refusal table.
 pub record Follows (verdict : Verdict) (rows : List Row) (numbers : List ℕ) (Wrong : ℕ → ℕ → Type 0) : Type 0 where
@@ -40,6 +42,10 @@ pub record Follows (verdict : Verdict) (rows : List Row) (numbers : List ℕ) (W
   pub order : numbersOf rows ≡ numbers
   -- what is named by number and place is wrong there, said without any search
   pub named : (k p : ℕ) → Gives verdict k p → Wrong k p
+  -- and is the first: no fault has a lower number, and none of the same number a lower place
+  pub first : (k p : ℕ) → Gives verdict k p → (k' p' : ℕ) → Wrong k' p' → (k < k') ⊎ ((k ≡ k') × (p ≤ p'))
+  -- and where nothing is refused there is no fault
+  pub none : verdict ≡ Accepted → (k p : ℕ) → Wrong k p → ⊥
 
 pub record Demand1 : Type 0 where
   -- which number, and which place: a call gives its share of the table
@@ -53,6 +59,8 @@ pub record Demand1 : Type 0 where
   pub checking : (file : List ℕ)
       → Follows (checkVerdict file) (planFileRows file)
       (1 ∷ 2 ∷ 3 ∷ 4 ∷ 5 ∷ 6 ∷ 7 ∷ 8 ∷ 9 ∷ 10 ∷ 11 ∷ 12 ∷ 13 ∷ 14 ∷ 15 ∷ []) (PlanFileFault file)
+  pub exporting : (file buffer : List ℕ)
+      → Follows (planVerdict file buffer) (planRows file buffer) (1 ∷ 2 ∷ 3 ∷ 4 ∷ 5 ∷ 6 ∷ 7 ∷ 16 ∷ []) (LaidFault file buffer)
   -- a refused call changes no byte that was lent to it
   pub request-not-written : (r : Request) (buffer : List ℕ) (x : Refusal)
       → writeVerdict 512 r buffer ≡ Refused x → requestWritten r buffer ≡ buffer

@@ -5,8 +5,8 @@ use mathlib.Core.List.{List}
 use mathlib.Core.Logic.{_↔_}
 use mathlib.Core.Path.{_≡_}
 use lib.ListN.{getD, length, take}
-use Rattle.blocks.specs.Check.{wordIn}
-use Rattle.blocks.specs.Words.{Bytes, wordAt, withWord}
+use Rattle.words.specs.Check.{wordIn}
+use Rattle.words.specs.Words.{Bytes, wordAt, withWord}
 use Rattle.switch.specs.Fairness.{Allocation, Fair, Settled, SameRates, LeastBase}
 use Rattle.switch.specs.Given.{Gives}
 use Rattle.switch.specs.Planned.{Right}
@@ -16,17 +16,17 @@ use Rattle.switch.specs.Within.{Within, Shaped}
 use Rattle.switch.specs.declared.plan.Plan.{Plan}
 use Rattle.switch.specs.declared.request.Request.{Request}
 use Rattle.switch.specs.declared.verdict.Verdict.the-variants.{Accepted}
-use Rattle.planner.specs.Planned.{planned}
-use Rattle.checker.specs.PlanRows.{judged}
-use Rattle.checker.specs.PlanWithin.{PlanWithin}
-use Rattle.checker.specs.Shown.{FairPlan, Judging}
-use Rattle.files.specs.PlanFile.{planIn, checkVerdict, WellFormed, planWritten}
-use Rattle.files.specs.PlanShown.{Checking, PlanWriting, Choosing}
-use Rattle.files.specs.RequestFile.{requestFile, requestIn, requestRead, requestWritten}
-use Rattle.files.specs.Shown.{SavedAndRead}
-use Rattle.listing.specs.Listing.{planText, listingOf}
-use Rattle.listing.specs.Shown.{ListingShown}
-use Rattle.files.specs.Writing.{writeVerdict}
+use Rattle.switch.specs.Answer.{planned}
+use Rattle.judging.specs.PlanRows.{judged}
+use Rattle.judging.specs.PlanWithin.{PlanWithin}
+use Rattle.judging.specs.Shown.{FairPlan, Judging}
+use Rattle.formats.specs.PlanFile.{planIn, checkVerdict, WellFormed, planWritten}
+use Rattle.formats.specs.PlanShown.{Checking, PlanWriting, Choosing}
+use Rattle.formats.specs.RequestFile.{requestFile, requestIn, requestRead, requestWritten}
+use Rattle.formats.specs.Shown.{SavedAndRead}
+use Rattle.texts.specs.Listing.{planText, listingOf}
+use Rattle.texts.specs.Shown.{ListingShown}
+use Rattle.formats.specs.Writing.{writeVerdict}
 
 pub record Demand2 : Type 0 where
   -- the plan is fair: feasible, bounded, and no flow could have more unless one loses that has no more than it

@@ -1,16 +1,16 @@
 -- Document 01's drawn examples, P1 to P12, as one table: each row is what the definition answers by which the call does. The
--- numbers stand in switch/Drawn and checker/Drawn, each request with the plan or the verdict that it has to have.
+-- numbers stand in switch/Drawn and judging/Drawn, each request with the plan or the verdict that it has to have.
 use mathlib.Core.Path.{_≡_}
-use Rattle.blocks.specs.Check.{check, startOf}
+use Rattle.words.specs.Check.{check, startOf}
 use Rattle.switch.specs.Drawn.{Example, triangleOfOnes, heldByOutput, askingNothing, noCapacity, askingAll, askingMore, largestNumbers, listedExample, triangleOfEights, cellNineLowered}
 use Rattle.switch.specs.Given.{Gives}
 use Rattle.switch.specs.declared.verdict.Verdict.the-variants.{Accepted}
-use Rattle.planner.specs.Planned.{planned}
-use Rattle.checker.specs.Drawn.{doubled, versionTwo, exchanged}
-use Rattle.checker.specs.PlanRows.{judged}
-use Rattle.files.specs.RequestFile.{requestFile}
-use Rattle.listing.specs.Listing.{listingOf}
-use Rattle.listing.specs.Shown.{drawnText}
+use Rattle.switch.specs.Answer.{planned}
+use Rattle.judging.specs.Drawn.{doubled, versionTwo, exchanged}
+use Rattle.judging.specs.PlanRows.{judged}
+use Rattle.formats.specs.RequestFile.{requestFile}
+use Rattle.texts.specs.Listing.{listingOf}
+use Rattle.texts.specs.Shown.{drawnText}
 
 -- The planner accepts the request and hands back the plan that is drawn.
 abbrev pub Planned : Example → Type 0

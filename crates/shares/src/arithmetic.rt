@@ -1,7 +1,7 @@
 // Sums and products of 64 bits that stop at the largest number, so that no caller has to rule out that they are too large.
 ghost use mathlib.Core.Path.{_≡_};
 ghost use Prim.Native.Nat.{_+_, _*_};
-ghost use Rattle.shares.specs.Saturated.{capped};
+ghost use Rattle.worked.specs.Saturated.{capped};
 
 const LARGEST: u64 = 18_446_744_073_709_551_615;
 

@@ -1,6 +1,6 @@
 // How many ports of a side are walked over.
 ghost use mathlib.Core.Path.{_≡_};
-ghost use Rattle.shares.specs.Saturated.{ports};
+ghost use Rattle.worked.specs.Saturated.{ports};
 
 // No side has more than eight ports, whatever number is given.
 pub fn ports(count: u32) -> u32

@@ -2,7 +2,7 @@
 ghost use mathlib.Core.Path.{_≡_};
 ghost use Prim.Native.Nat.{_<_, _/_};
 ghost use Rattle.fairness.specs.Divisor.{gcd, gcdOf, divided};
-ghost use Rattle.shares.specs.Reduced.{reducedBase, reducedNumerators};
+ghost use Rattle.worked.specs.Reduced.{reducedBase, reducedNumerators};
 
 // Euclid's algorithm. The first division is that of `a` by `b`, and the last if `b` divides `a`; if `a` is 0 there is none, and
 // most numerators of a sparse plan are.

@@ -1,19 +1,14 @@
-// What a test for a bottleneck needs to know of a port. It is worked out once and serves all flows of the port.
+// The ports of a plan: what their flows add up to, and the largest of them.
 ghost use mathlib.Core.Path.{_≡_};
 ghost use Prim.Native.Nat.{max};
-ghost use Rattle.shares.specs.Port.{inputPort, outputPort};
+ghost use Rattle.worked.specs.Port.{inputPort, outputPort};
 use crate::arithmetic::plus;
 use crate::count::ports;
 use crate::numerator::numerator;
 use switch::port::Input;
 use switch::port::Output;
 use switch::port::cell;
-
-// What the numerators of a port's flows add up to, and the largest of them.
-pub struct Port {
-    pub sum: u64,
-    pub most: u64,
-}
+use worked::port::Port;
 
 fn larger(a: u64, b: u64) -> u64
     ensures { λ r. ⌜ r ≡ max a b ⌝ }

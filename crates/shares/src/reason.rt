@@ -2,16 +2,16 @@
 ghost use mathlib.Core.Path.{_≡_};
 ghost use Prim.Native.Nat.{_*_, _<_};
 ghost use lib.ListN.{length};
-ghost use Rattle.shares.specs.Overwritten.{overwritten};
-ghost use Rattle.shares.specs.Reason.{holds, reasonFrom, reasonGiven, reasonIn, reasonsAt};
-ghost use Rattle.shares.specs.Saturated.{ports};
+ghost use Rattle.worked.specs.Overwritten.{overwritten};
+ghost use Rattle.worked.specs.Reason.{holds, reasonFrom, reasonGiven, reasonIn, reasonsAt};
+ghost use Rattle.worked.specs.Saturated.{ports};
 use crate::arithmetic::times;
 use crate::count::ports;
 use crate::numerator::numerator;
-use crate::port::Port;
 use crate::port::input_port;
 use switch::entry::entry;
 use switch::port::Input;
+use worked::port::Port;
 
 // The flow has its demand.
 const MET: u8 = 0;

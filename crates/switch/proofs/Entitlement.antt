@@ -3,19 +3,20 @@ use Prim.Native.Nat.{ℕ, zero, suc, _*_, _%_, _/_, _+_, _≤_, _<_, min}
 use mathlib.Core.Bool.{Bool, true, false, cond, _||_}
 use mathlib.Core.List.{List}
 use mathlib.Core.Logic.{_⊎_, inl, inr}
-use mathlib.Core.Path.{_≡_, refl, ap, _∙_, subst}
+use mathlib.Core.Path.{_≡_, refl, sym, ap, _∙_, subst}
 use native.Mathlib.Nat.{mul-le-mul-right, min-le-left, min-le-right}
 use native.Mathlib.Omega.{arith}
-use lib.Dec.{eqb}
+use lib.Dec.{eqb, ltb}
 use lib.Seq.{getD-set-same, getD-set-other, set-getD, set-set}
-use borrow.Author.Tests.{eq-eqb, ne-eqb, eqb-true}
+use borrow.Author.Tests.{eq-eqb, ne-eqb, eqb-true, ltb-true}
 use Rattle.fairness.specs.Entitlement.{asking, sharing}
 use Rattle.fairness.specs.Fairness as General
 use Rattle.fairness.specs.Total.{on}
 use Rattle.fairness.proofs.Entitlement.{entitled, floor}
 use Rattle.fairness.proofs.SameProblem.{Agree, fair-agree}
-use Rattle.laws.proofs.Search.{eq-or-not, true-or-false, true-not-false}
-use Rattle.switch.specs.Cells.{input, output, cellOf, inputLimit, outputLimit, usedCell, inputCapacity, outputCapacity, demandOf}
+use Rattle.laws.proofs.Search.{eq-or-not, true-or-false, true-not-false, both-true}
+use Rattle.switch.specs.Cells.{input, output, cellOf, inputOf, outputOf, inputLimit, outputLimit, used, usedCell}
+use Rattle.switch.specs.Cells.{inputCapacity, outputCapacity, demandOf}
 use Rattle.switch.specs.Entitlement.{withDemand, Rate, rateOf, entitlement, smaller, floorOf, SameRate, AtMost, Entitled}
 use Rattle.switch.specs.Fairness.{Used}
 use Rattle.switch.specs.Planned.{passes, capacityOf, problemOf, planOf}
@@ -25,6 +26,7 @@ use Rattle.switch.specs.declared.port.Input.{Input}
 use Rattle.switch.specs.declared.port.Output.{Output}
 use Rattle.switch.specs.declared.request.Request.{Request}
 use Rattle.switch.proofs.Agree.{blanked, blank-blanked}
+use Rattle.switch.proofs.Cells.{cell-of-ports, input-of-cell, output-of-cell, below-of-used}
 use Rattle.switch.proofs.Fair.{sound, general-of-fair}
 use Rattle.switch.proofs.Planned.{right-planOf}
 use Rattle.switch.proofs.Sharing.{general, by-cell, below-eight, used-flow, capacity-input, capacity-output, across-input, across-output}
@@ -33,9 +35,8 @@ abbrev withTable : Request → List ℕ → Request
 withTable r xs = record { m = r .m; n = r .n; inputs = r .inputs; outputs = r .outputs; demands = xs }
 
 -- What a flow is entitled to is told without a look at its own demand.
-entitlement-unmoved : (r : Request) (u : Input) (v : Output) (d : ℕ) → entitlement (withDemand r (cellOf u v) d) u v ≡ entitlement r u v
-entitlement-unmoved r u v d =
-    ap (λ (xs : List ℕ). rateOf (planOf (withTable r xs)) u v) (set-set (r .demands) (cellOf u v) d _)
+entitlement-unmoved : (r : Request) (c d : ℕ) → entitlement (withDemand r c d) c ≡ entitlement r c
+entitlement-unmoved r c d = ap (λ (xs : List ℕ). rateOf (planOf (withTable r xs)) c) (set-set (r .demands) c d _)
 
 -- A request with the demand that it has is that request.
 with-own-demand : (r : Request) (c : ℕ) → withDemand r c (demandOf r c) ≡ r
@@ -128,7 +129,7 @@ module _ (r : Request) (w : Within r) (t : Shaped r) (u : Input) (v : Output) (i
   other-cell u' v' h (inl past) e = omega (arith, is .input, ports)
   other-cell u' v' h (inr past) e = omega (arith, is .output, ports)
 
-  pub within-with-demand : (d : ℕ) → d ≤ 16_777_216 → Within (withDemand r c d)
+  within-with-demand : (d : ℕ) → d ≤ 16_777_216 → Within (withDemand r c d)
   within-with-demand d small =
       record {
         inputs = w .inputs;
@@ -152,7 +153,7 @@ module _ (r : Request) (w : Within r) (t : Shaped r) (u : Input) (v : Output) (i
       let right = right-planOf (withDemand r c d) within in
       general-of-fair (withDemand r c d) within (rates d) (right .blank) (right .fair)
 
-  smaller-given : (d : ℕ) → d ≤ 16_777_216 → SameRate (rateOf (planOf (withDemand r c d)) u v) (smaller d (entitlement r u v))
+  smaller-given : (d : ℕ) → d ≤ 16_777_216 → SameRate (rateOf (planOf (withDemand r c d)) c) (smaller d (entitlement r c))
   smaller-given d small =
       entitled (problemOf r) (λ k h. omega arith) c below 16_777_216 d small (general (rates 16_777_216)) (general (rates d))
       (fair-agree (agree 16_777_216) (general (rates 16_777_216)) (fair 16_777_216 (omega arith)))
@@ -184,19 +185,19 @@ module _ (r : Request) (w : Within r) (t : Shaped r) (u : Input) (v : Output) (i
   abbrev Shared : ℕ → Type 0
   Shared l = 1 * capacityOf top l * rates 16_777_216 .base ≤ rates 16_777_216 .numerator c * sharing (problemOf top) (usedCell top) l
 
-  floor-kept : AtMost (floorOf r u v) (entitlement r u v)
+  floor-kept : AtMost (floorOf r u v) (entitlement r c)
   floor-kept =
       let share =
       floor (problemOf top) (usedCell top) silent (general (rates 16_777_216)) (fair 16_777_216 (omega arith)) c below
       (used-flow r w u v is) wide (λ l e g h m. refl) (sound top within-top .placed c below) in
-      port-passed u v (ports .0) (ports .1) (λ l. Shared l → AtMost (floorOf r u v) (entitlement r u v))
-      (λ h. floor-by-input r u v (entitlement r u v)
+      port-passed u v (ports .0) (ports .1) (λ l. Shared l → AtMost (floorOf r u v) (entitlement r c))
+      (λ h. floor-by-input r u v (entitlement r c)
       (omega (
         arith,
         rw (capacity-input top within-top u (ports .0)) at h,
         mul-le-mul-right (rates 16_777_216 .numerator c) (sharing-input top within-top u (ports .0)),
       )))
-      (λ h. floor-by-output r u v (entitlement r u v)
+      (λ h. floor-by-output r u v (entitlement r c)
       (omega (
         arith,
         rw (capacity-output top within-top v) at h,
@@ -204,14 +205,31 @@ module _ (r : Request) (w : Within r) (t : Shaped r) (u : Input) (v : Output) (i
       )))
       (share .0) (share .2 .0) (share .2 .1)
 
-  pub entitled-shown : Entitled r u v
-  entitled-shown =
+  at-ports : Entitled r c
+  at-ports =
       record {
-        unmoved = entitlement-unmoved r u v;
+        unmoved = entitlement-unmoved r c;
         proper = right-planOf top within-top .fair .allocation .positive;
         given = smaller-given;
         own =
-            subst (λ (x : Request). SameRate (rateOf (planOf x) u v) (smaller (demandOf r c) (entitlement r u v)))
+            subst (λ (x : Request). SameRate (rateOf (planOf x) c) (smaller (demandOf r c) (entitlement r c)))
             (with-own-demand r c) (smaller-given (demandOf r c) (w .demand u v (is .input) (is .output)));
-        floor = floor-kept;
+        floor =
+            subst (λ (x : Input). AtMost (floorOf r x (outputOf c)) (entitlement r c)) (sym (input-of-cell u v (ports .0) (ports .1)))
+            (subst (λ (y : Output). AtMost (floorOf r u y) (entitlement r c)) (sym (output-of-cell u v (ports .1))) floor-kept);
       }
+
+-- What holds of the cell of any two used ports holds of every used cell.
+by-ports : (r : Request) (P : ℕ → Type 0) → ((u : Input) (v : Output) → Used r u v → P (cellOf u v))
+    → (c : ℕ) → usedCell r c ≡ true → P c
+by-ports r P shown c e =
+    let (low, is) = both-true (ltb c 64) (used r (inputOf c) (outputOf c)) e in
+    let (u, v) = below-of-used r (inputOf c) (outputOf c) is in
+    subst P (cell-of-ports c (ltb-true c 64 low)) (shown (inputOf c) (outputOf c) (record { input = u; output = v }))
+
+pub within-asking : (r : Request) → Within r → Shaped r → (c : ℕ) → usedCell r c ≡ true
+    → (d : ℕ) → d ≤ 16_777_216 → Within (withDemand r c d)
+within-asking r w t = by-ports r (λ c. (d : ℕ) → d ≤ 16_777_216 → Within (withDemand r c d)) (within-with-demand r w t)
+
+pub entitled-shown : (r : Request) → Within r → Shaped r → (c : ℕ) → usedCell r c ≡ true → Entitled r c
+entitled-shown r w t = by-ports r (Entitled r) (at-ports r w t)

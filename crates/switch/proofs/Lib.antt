@@ -4,9 +4,12 @@ pub mod Cells
 pub mod Search
 pub mod Stretch
 pub mod Rows
+pub mod Rising
+pub mod First
 pub mod Numbering
 pub mod Within
 pub mod Fault
+pub mod Noticed
 pub mod Grid
 pub mod Sharing
 pub mod Small
@@ -14,6 +17,7 @@ pub mod Agree
 pub mod Fair
 pub mod Reason
 pub mod Planned
+pub mod Answer
 pub mod SameRates
 pub mod Shown
 pub mod Entitlement

@@ -67,6 +67,15 @@ each-cons P {row} {rows} p all x m = go (List·Memᴰ·cases-cons m)
     go (inl e) = subst P (sym e) p
     go (inr l) = all x l
 
+pub each-here : (P : Row → Type 0) {row : Row} {rows : List Row} → Each P (row ∷ rows) → P row
+each-here P {row} all = all row (List·Memᴰ·head refl)
+
+pub each-after : (P : Row → Type 0) {row : Row} {rows : List Row} → Each P (row ∷ rows) → Each P rows
+each-after P all x m = all x (List·Memᴰ·tail m)
+
+pub each-after-three : (P : Row → Type 0) {a b c : Row} {rows : List Row} → Each P (a ∷ b ∷ c ∷ rows) → Each P rows
+each-after-three P all = each-after P (each-after P (each-after P all))
+
 pub silent-nil : AllSilent []
 silent-nil = each-nil Silent
 
@@ -74,10 +83,10 @@ pub silent-cons : {row : Row} {rows : List Row} → Silent row → AllSilent row
 silent-cons = each-cons Silent
 
 pub silent-here : {row : Row} {rows : List Row} → AllSilent (row ∷ rows) → Silent row
-silent-here {row} all = all row (List·Memᴰ·head refl)
+silent-here = each-here Silent
 
 pub silent-after : {row : Row} {rows : List Row} → AllSilent (row ∷ rows) → AllSilent rows
-silent-after all x m = all x (List·Memᴰ·tail m)
+silent-after = each-after Silent
 
 -- Whatever offends against a row, the row's number and the offender's place have Q.
 abbrev pub Named : (ℕ → ℕ → Type 0) → Row → Type 0
@@ -91,8 +100,14 @@ module _ (a b : Row) where
   high : (j : ℕ) → joined a b .offends (a .size + j) ≡ b .offends j
   high j = rw (le-ltb (a .size + j) (a .size) (omega arith), add-sub-cancel-left (a .size) j)
 
+  pub low-place : (i : ℕ) → i < a .size → joined a b .place i ≡ a .place i
+  low-place i h = rw (lt-ltb i (a .size) h)
+
+  pub high-place : (j : ℕ) → joined a b .place (a .size + j) ≡ b .place j
+  high-place j = rw (le-ltb (a .size + j) (a .size) (omega arith), add-sub-cancel-left (a .size) j)
+
   -- what holds of the first part's candidates and of the second's holds of all
-  by-part : (Q : ℕ → Type 0) → ((i : ℕ) → i < a .size → Q i) → ((j : ℕ) → j < b .size → Q (a .size + j))
+  pub by-part : (Q : ℕ → Type 0) → ((i : ℕ) → i < a .size → Q i) → ((j : ℕ) → j < b .size → Q (a .size + j))
       → (i : ℕ) → i < a .size + b .size → Q i
   by-part Q first second i h = go (le-or-lt (a .size) i)
     where
@@ -107,9 +122,14 @@ module _ (a b : Row) where
   pub named-joined : (Q : ℕ → ℕ → Type 0) → a .cause ≡ b .cause → Named Q a → Named Q b → Named Q (joined a b)
   named-joined Q same na nb =
       by-part (λ i. joined a b .offends i ≡ true → Q (numberOf (a .cause)) (joined a b .place i))
-      (λ i h e. rw (lt-ltb i (a .size) h) (na i h (sym (low i h) ∙ e)))
-      (λ j h e. rw (le-ltb (a .size + j) (a .size) (omega arith), add-sub-cancel-left (a .size) j, same)
-      (nb j h (sym (high j) ∙ e)))
+      (λ i h e. rw (low-place i h) (na i h (sym (low i h) ∙ e)))
+      (λ j h e. rw (high-place j, same) (nb j h (sym (high j) ∙ e)))
+
+  pub named-first : (Q : ℕ → ℕ → Type 0) → Named Q (joined a b) → Named Q a
+  named-first Q n i h e = rw (low-place i h) at (n i (omega arith) (low i h ∙ e))
+
+  pub named-second : (Q : ℕ → ℕ → Type 0) → a .cause ≡ b .cause → Named Q (joined a b) → Named Q b
+  named-second Q same n j h e = rw (high-place j, same) at (n (a .size + j) (omega arith) (high j ∙ e))
 
   pub silent-first : Silent (joined a b) → Silent a
   silent-first s i h = sym (low i h) ∙ s i (omega arith)

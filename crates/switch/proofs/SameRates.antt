@@ -1,18 +1,16 @@
 -- The same rates over another base: they are as fair as before, with the same bottlenecks and the same reasons.
 use Prim.Native.Nat.{ℕ, zero, suc, _*_, _<_}
 use mathlib.Core.Bool.{Bool, true, false, cond}
-use mathlib.Core.Logic.{_⊎_, _↔_, inl, inr}
-use mathlib.Core.Path.{_≡_, refl, sym, _∙_, ap, ap₂}
+use mathlib.Core.Logic.{_↔_}
+use mathlib.Core.Path.{_≡_, refl, sym, ap, ap₂}
 use native.Mathlib.Nat.{mul-le-mul-right, le-of-mul-le-mul-right, lt-of-mul-lt-mul-right, eq-of-mul-eq-mul-right, mul-lt-mul-of-pos-right}
 use native.Mathlib.Omega.{arith}
 use borrow.Author.Tests.{eq-eqb, eqb-true}
-use Rattle.laws.proofs.Search.{true-or-false}
-use Rattle.fairness.specs.Fairness as General
 use Rattle.fairness.proofs.Unique.{fair-of-same}
-use Rattle.switch.specs.Cells.{input, output, cellOf, inputCapacity, demandOf}
+use Rattle.switch.specs.Cells.{input, output, cellOf, demandOf}
 use Rattle.switch.specs.Fairness.{Used, Fair, InputBottleneck, SameRates}
 use Rattle.switch.specs.Planned.{problemOf, planOf}
-use Rattle.switch.specs.Rates.{Rates, flow, ratesOf, sumTo, inputTotal}
+use Rattle.switch.specs.Rates.{Rates, flow, ratesOf, sumTo}
 use Rattle.switch.specs.Reason.{atDemand, inputHolds, flowReason}
 use Rattle.switch.specs.Within.{Within}
 use Rattle.switch.specs.declared.port.Input.{Input}

@@ -1,7 +1,6 @@
 -- The numbers of a request within the limits are small, those of unused ports and cells too.
 use Prim.Native.Nat.{ℕ, _≤_, _<_}
 use mathlib.Core.Logic.{_⊎_, inl, inr}
-use mathlib.Core.Path.{_≡_}
 use native.Mathlib.Omega.{arith}
 use Rattle.laws.proofs.Search.{le-or-lt}
 use Rattle.switch.specs.Cells.{inputCapacity, outputCapacity, demandOf}

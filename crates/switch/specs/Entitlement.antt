@@ -2,9 +2,9 @@
 use Prim.Native.Nat.{ℕ, _*_, _≤_, _<_, min}
 use mathlib.Core.Path.{_≡_}
 use lib.ListN.{set}
-use Rattle.switch.specs.Cells.{cellOf, inputCapacity, outputCapacity, demandOf}
+use Rattle.switch.specs.Cells.{inputOf, outputOf, inputCapacity, outputCapacity, demandOf}
 use Rattle.switch.specs.Planned.{planOf}
-use Rattle.switch.specs.Rates.{flow, ratesOf}
+use Rattle.switch.specs.Rates.{ratesOf}
 use Rattle.switch.specs.declared.plan.Plan.{Plan}
 use Rattle.switch.specs.declared.port.Input.{Input}
 use Rattle.switch.specs.declared.port.Output.{Output}
@@ -20,13 +20,13 @@ pub record Rate : Type 0 where
   pub numerator : ℕ
   pub base : ℕ
 
--- The rate that a plan gives the flow from u to v.
-abbrev pub rateOf : Plan → Input → Output → Rate
-rateOf p u v = record { numerator = flow (ratesOf p) u v; base = p .base }
+-- The rate that a plan gives the flow of a cell.
+abbrev pub rateOf : Plan → ℕ → Rate
+rateOf p c = record { numerator = ratesOf p .numerator c; base = p .base }
 
--- The entitlement of a flow: what the plan gives it when it asks for as much as a flow can ask for.
-abbrev pub entitlement : Request → Input → Output → Rate
-entitlement r u v = rateOf (planOf (withDemand r (cellOf u v) 16_777_216)) u v
+-- The entitlement of a cell's flow: what the plan gives it when it asks for as much as a flow can ask for.
+abbrev pub entitlement : Request → ℕ → Rate
+entitlement r c = rateOf (planOf (withDemand r c 16_777_216)) c
 
 -- The smaller of a demand and a rate, over that rate's base.
 abbrev pub smaller : ℕ → Rate → Rate
@@ -45,15 +45,15 @@ SameRate x y = x .numerator * y .base ≡ y .numerator * x .base
 abbrev pub AtMost : Rate → Rate → Type 0
 AtMost x y = x .numerator * y .base ≤ y .numerator * x .base
 
--- The third demand, for the flow from u to v.
-pub record Entitled (r : Request) (u : Input) (v : Output) : Type 0 where
+-- The third demand, for the flow of a cell.
+pub record Entitled (r : Request) (c : ℕ) : Type 0 where
   -- its own demand cannot move its entitlement,
-  pub unmoved : (d : ℕ) → entitlement (withDemand r (cellOf u v) d) u v ≡ entitlement r u v
+  pub unmoved : (d : ℕ) → entitlement (withDemand r c d) c ≡ entitlement r c
   -- which is a rate over a base that is not 0;
-  pub proper : 0 < entitlement r u v .base
+  pub proper : 0 < entitlement r c .base
   -- at each demand the plan gives it the smaller of the two,
-  pub given : (d : ℕ) → d ≤ 16_777_216 → SameRate (rateOf (planOf (withDemand r (cellOf u v) d)) u v) (smaller d (entitlement r u v))
+  pub given : (d : ℕ) → d ≤ 16_777_216 → SameRate (rateOf (planOf (withDemand r c d)) c) (smaller d (entitlement r c))
   -- and so it does at the demand that the request has;
-  pub own : SameRate (rateOf (planOf r) u v) (smaller (demandOf r (cellOf u v)) (entitlement r u v))
+  pub own : SameRate (rateOf (planOf r) c) (smaller (demandOf r c) (entitlement r c))
   -- and the entitlement is at least the floor
-  pub floor : AtMost (floorOf r u v) (entitlement r u v)
+  pub floor : AtMost (floorOf r (inputOf c) (outputOf c)) (entitlement r c)

@@ -1,6 +1,7 @@
 -- When a refusal is given, said without computing anything: which row of a list applies, and where. Document 01 says it
 -- above its table 'Refusal numbers'.
-use Prim.Native.Nat.{ℕ, _<_}
+use Prim.Native.Nat.{ℕ, _≤_, _<_}
+use mathlib.Core.Logic.{_⊎_}
 use mathlib.Core.Path.{_≡_}
 use mathlib.Core.Bool.{true, false}
 use mathlib.Core.List.{List, _∷_, _++_, map, List·Memᴰ}
@@ -41,3 +42,7 @@ pub record Applies (rows : List Row) (row : Row) (p : ℕ) : Type 0 where
 abbrev pub Gives : Verdict → ℕ → ℕ → Type 0
 Gives Accepted k p = ⊥
 Gives (Refused x) k p = (numberOf (x .cause) ≡ k) × (x .place ≡ p)
+
+-- Number k at place p comes no later than number k' at place p': the table's order first, and then the place.
+abbrev pub NoLater : ℕ → ℕ → ℕ → ℕ → Type 0
+NoLater k p k' p' = (k < k') ⊎ ((k ≡ k') × (p ≤ p'))

@@ -1,5 +1,5 @@
--- What document 01 says of a switch, as definitions: ports and cells, requests within the limits, fairness, reasons and
--- the plan of a request, and refusals with their numbers, places and rows.
+-- What document 01 says of a switch, as definitions: ports and cells, requests within the limits, fairness, reasons, the plan of a
+-- request and what planning answers, and refusals with their numbers, places, rows and faults.
 pub mod Cells
 pub mod Within
 pub mod Rates
@@ -14,5 +14,6 @@ pub mod Rows
 pub mod Given
 pub mod RequestRows
 pub mod Fault
+pub mod Answer
 pub mod Tables
 pub mod Drawn

@@ -1,9 +1,7 @@
-// What a switch is: its ports and cells, requests and plans, refusals and verdicts, and the check of a request's numbers.
-pub mod check;
+// What a switch is: its ports and cells, requests and plans, refusals and verdicts.
 pub mod entry;
-mod number;
+pub mod number;
 pub mod plan;
 pub mod port;
 pub mod request;
-mod tables;
 pub mod verdict;

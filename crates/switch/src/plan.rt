@@ -1,6 +1,7 @@
-// A plan: one exact rate, a numerator over the plan's base, and one reason for each flow.
+// A plan: one exact rate, a numerator over the plan's base, and one reason for each flow; and what planning answers.
 ghost use mathlib.Core.Path.{_≡_};
 ghost use Rattle.switch.specs.Values.{emptyPlan};
+use crate::verdict::Verdict;
 
 pub struct Plan {
     pub base: u64,
@@ -23,4 +24,10 @@ impl Plan {
             reasons: [0u8; 64],
         }
     }
+}
+
+// What planning gives: a verdict, and the plan, which is the empty plan if the verdict refuses.
+pub struct Planned {
+    pub verdict: Verdict,
+    pub plan: Plan,
 }

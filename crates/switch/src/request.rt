@@ -1,11 +1,8 @@
 // A request: a switch's port capacities and the demand of each flow, with the limits of its numbers.
 ghost use mathlib.Core.Path.{_≡_};
-ghost use Rattle.switch.specs.Cells.{cellOf, demandOf};
+ghost use Rattle.switch.specs.Cells.{demandOf};
 ghost use Rattle.switch.specs.Values.{zeroRequest};
 use crate::entry::entry;
-use crate::port::Input;
-use crate::port::Output;
-use crate::port::cell;
 
 pub struct Request {
     pub m: u32,
@@ -35,10 +32,10 @@ impl Request {
         }
     }
 
-    // What the flow from `u` to `v` asks for.
-    pub fn demand(self, u: Input, v: Output) -> u32
-        ensures { λ r. ⌜ r ≡ demandOf self (cellOf u v) ⌝ }
+    // What the flow of a cell asks for: 0 where a number above 63 is no cell.
+    pub fn demand(self, cell: u64) -> u32
+        ensures { λ r. ⌜ r ≡ demandOf self cell ⌝ }
     {
-        entry(&self.demands, cell(u, v))
+        entry(&self.demands, cell)
     }
 }

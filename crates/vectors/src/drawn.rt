@@ -10,8 +10,7 @@ use crate::values::NUMERATOR;
 use crate::values::OUTPUT;
 use crate::values::QUIET;
 use crate::values::REASON;
-
-const SET: u64 = QUIET + ALSO;
+use crate::values::SET;
 
 // Numbers of the worked listing changed, until it is the triangle: four inputs and outputs, every capacity 1, and demand 1 where
 // the output's number is at most the input's.

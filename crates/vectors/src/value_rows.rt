@@ -12,14 +12,14 @@ use crate::values::NUMERATOR;
 use crate::values::OUTPUT;
 use crate::values::QUIET;
 use crate::values::REASON;
+use crate::values::SET;
 
-const SET: u64 = QUIET + ALSO;
-
-pub const CHANGES: [u64; 42] = [
+pub const CHANGES: [u64; 43] = [
     // Each fault of the request is before the one that it already has.
     INPUT + 4 * AT + 1,
     ALSO + DEMAND + 27 * AT + 16_777_217,
     ALSO + OUTPUT + 3 * AT + 16_777_217,
+    ALSO + INPUT + 3 * AT + 16_777_217,
     ALSO + N,
     ALSO + M + 9,
     // Unused cells of block 1: cell 4 is the first of them and cell 31 the last.

@@ -5,7 +5,7 @@ use crate::show::number;
 use crate::show::text;
 use checker::judge::judge;
 use planner::plan::plan as planned;
-use switch::check::check;
+use requests::check::check;
 use switch::plan::Plan;
 use switch::request::Request;
 
@@ -44,6 +44,8 @@ pub const ALSO: u64 = 4 * HIGH;
 
 // Nothing is tried before the next change.
 pub const QUIET: u64 = 8 * HIGH;
+
+pub const SET: u64 = QUIET + ALSO;
 
 pub struct Offer {
     pub request: Request,

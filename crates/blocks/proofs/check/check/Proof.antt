@@ -4,7 +4,7 @@ use mathlib.Core.Path.{_≡_, refl, _∙_, ap, ap₂}
 use native.Mathlib.Omega.{arith}
 use native.Mathlib.Numerals.{add-one}
 use borrow.Author.Needs.{needs}
-use Rattle.blocks.specs.Check.{taken, running, wordIn}
+use Rattle.words.specs.Check.{taken, running, wordIn}
 use Rattle.blocks.proofs.check.check.Statement.{statement}
 use Rattle.blocks.proofs.check.check.Tie as tie
 

@@ -1,7 +1,7 @@
 -- `seal` meets its contract.
 use mathlib.Core.Path.{_∙_, ap}
 use borrow.Author.Needs.{needs}
-use Rattle.blocks.specs.Words.{withWord}
+use Rattle.words.specs.Words.{withWord}
 use Rattle.blocks.proofs.check.seal.Statement.{statement}
 use Rattle.blocks.proofs.check.seal.Tie as tie
 

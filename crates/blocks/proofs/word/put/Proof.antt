@@ -4,7 +4,7 @@ use native.Mathlib.Numerals.{towards-suc}
 use borrow.Author.Needs.{needs}
 use borrow.Author.Tests.{lt-ltb, le-ltb}
 use lib.ListN.{length-set}
-use Rattle.blocks.specs.Words.{withWord}
+use Rattle.words.specs.Words.{withWord}
 use Rattle.blocks.proofs.word.put.Statement.{statement}
 use Rattle.blocks.proofs.word.put.Tie as tie
 

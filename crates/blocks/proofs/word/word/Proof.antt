@@ -1,7 +1,7 @@
 -- `word` meets its contract: within the bytes the four are there, and together they fit 32 bits.
 use borrow.Author.Needs.{needs}
 use borrow.Author.Tests.{lt-ltb, le-ltb}
-use Rattle.blocks.specs.Words.{wordAt}
+use Rattle.words.specs.Words.{wordAt}
 use Rattle.blocks.proofs.word.word.Statement.{statement}
 use Rattle.blocks.proofs.word.word.Tie as tie
 

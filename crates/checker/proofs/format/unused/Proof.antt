@@ -10,7 +10,7 @@ use denote.Ref.{now}
 use Rattle.switch.specs.Rows.{orElse, rowVerdict}
 use Rattle.switch.specs.Tables.{requestOf}
 use Rattle.switch.proofs.Rows.{joined-verdict}
-use Rattle.checker.specs.PlanRows.{planWith, unusedRates, unusedReasons, halfNotZero}
+use Rattle.judging.specs.PlanRows.{planWith, unusedRates, unusedReasons, halfNotZero}
 use Rattle.checker.proofs.format.unused.Statement.{statement}
 use Rattle.checker.proofs.format.unused.Tie as tie
 

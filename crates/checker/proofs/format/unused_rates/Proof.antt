@@ -9,7 +9,7 @@ use lib.ListN.{getD}
 use Rattle.switch.specs.Rows.{refusal}
 use Rattle.switch.specs.declared.verdict.Cause.the-variants.{NotZero}
 use Rattle.switch.proofs.Search.{Passed, passed-none, row-accepts}
-use Rattle.checker.specs.PlanRows.{firstWord}
+use Rattle.judging.specs.PlanRows.{firstWord}
 use Rattle.checker.proofs.Unused.{unusedRow, unused-more, unused-refuses}
 use Rattle.checker.proofs.format.unused_rates.Statement.{statement}
 use Rattle.checker.proofs.format.unused_rates.Tie as tie

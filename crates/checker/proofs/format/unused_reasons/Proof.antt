@@ -6,7 +6,7 @@ use borrow.Author.Needs.{needs}
 use Rattle.switch.specs.Rows.{refusal}
 use Rattle.switch.specs.declared.verdict.Cause.the-variants.{NotZero}
 use Rattle.switch.proofs.Search.{Passed, passed-none, row-accepts}
-use Rattle.checker.specs.Places.{reasonWord}
+use Rattle.judging.specs.Places.{reasonWord}
 use Rattle.checker.proofs.Unused.{unusedRow, unused-more, unused-refuses}
 use Rattle.checker.proofs.format.unused_reasons.Statement.{statement}
 use Rattle.checker.proofs.format.unused_reasons.Tie as tie

@@ -1,5 +1,5 @@
 -- `judge` meets its contract: the chain of its rows is the table's.
-use mathlib.Core.Path.{_≡_, _∙_, ap₂}
+use mathlib.Core.Path.{_∙_, ap₂}
 use borrow.Author.Needs.{needs}
 use Rattle.switch.specs.Rows.{orElse}
 use Rattle.checker.proofs.Judged.{judged-as-asked}

@@ -12,8 +12,8 @@ use Rattle.switch.specs.Rows.{Row}
 use Rattle.switch.specs.Tables.{usedAt, requestOf}
 use Rattle.switch.proofs.Cells.{used-of-below, unused-of-past, usedCell-of-ports, usedCell-of-cell}
 use Rattle.switch.proofs.Search.{Passed, passed-none, passed-more, passed-on, at-of-first, nothing-of-silent}
-use Rattle.shares.specs.Saturated.{ports}
-use Rattle.checker.specs.Worked.{freeRow, cellFound}
+use Rattle.worked.specs.Saturated.{ports}
+use Rattle.worked.specs.Worked.{freeRow, cellFound}
 use Rattle.checker.proofs.rates.free_cell.Statement.{statement}
 use Rattle.checker.proofs.rates.free_cell.Tie as tie
 

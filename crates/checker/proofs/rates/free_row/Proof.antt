@@ -8,7 +8,7 @@ use Rattle.switch.specs.Given.{Silent, First}
 use Rattle.switch.specs.Rows.{Row, firstOf, refusal, rowVerdict}
 use Rattle.switch.specs.declared.verdict.Verdict.the-variants.{Accepted}
 use Rattle.switch.proofs.Search.{at-of-first, nothing-of-silent, silent-or-first}
-use Rattle.checker.specs.Worked.{cellFound}
+use Rattle.worked.specs.Worked.{cellFound}
 use Rattle.checker.proofs.rates.free_row.Statement.{statement}
 use Rattle.checker.proofs.rates.free_row.Tie as tie
 

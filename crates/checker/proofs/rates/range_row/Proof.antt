@@ -5,7 +5,7 @@ use native.Mathlib.Omega.{arith}
 use borrow.Author.Needs.{needs}
 use borrow.Author.Tests.{lt-ltb, le-ltb}
 use Rattle.switch.proofs.Search.{Passed, passed-none, passed-more, row-refuses, row-accepts}
-use Rattle.checker.specs.Worked.{rangeWorked}
+use Rattle.worked.specs.Worked.{rangeWorked}
 use Rattle.checker.proofs.rates.range_row.Statement.{statement}
 use Rattle.checker.proofs.rates.range_row.Tie as tie
 

@@ -11,8 +11,8 @@ use Rattle.switch.specs.declared.plan.Plan.{Plan}
 use Rattle.switch.specs.declared.request.Request.{Request}
 use Rattle.switch.specs.declared.verdict.Cause.the-variants.{AboveDemand}
 use Rattle.switch.proofs.Rows.{or-else-accepted}
-use Rattle.checker.specs.Worked.{scaled, rangeWorked, moreRow, freeRow, reasonsRow, inputsWeighed, outputsWeighed, ratesWorked}
-use Rattle.checker.specs.declared.side.Weighed.{Weighed}
+use Rattle.worked.specs.Worked.{scaled, rangeWorked, moreRow, freeRow, reasonsRow, inputsWeighed, outputsWeighed, ratesWorked}
+use Rattle.worked.specs.declared.side.Weighed.{Weighed}
 use Rattle.checker.proofs.rates.rates.Statement.{statement}
 use Rattle.checker.proofs.rates.rates.Tie as tie
 

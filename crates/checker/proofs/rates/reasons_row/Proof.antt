@@ -12,7 +12,7 @@ use lib.ListN.{getD}
 use Rattle.switch.specs.Rows.{Row, refusal}
 use Rattle.switch.specs.declared.verdict.Cause.the-variants.{WrongReason}
 use Rattle.switch.proofs.Search.{Passed, passed-none, passed-more, row-refuses, row-accepts}
-use Rattle.checker.specs.Worked.{reasonBy, reasonsRow}
+use Rattle.worked.specs.Worked.{reasonBy, reasonsRow}
 use Rattle.checker.proofs.rates.reasons_row.Statement.{statement}
 use Rattle.checker.proofs.rates.reasons_row.Tie as tie
 

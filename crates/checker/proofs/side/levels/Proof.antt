@@ -4,7 +4,7 @@ use mathlib.Core.Path.{refl}
 use native.Mathlib.Omega.{arith}
 use borrow.Author.Needs.{needs}
 use lib.ListN.{length, getD}
-use Rattle.checker.specs.Worked.{levelOf}
+use Rattle.worked.specs.Worked.{levelOf}
 use Rattle.laws.proofs.Filled.{Filled, filled-none, filled-next, filled-all}
 use Rattle.checker.proofs.side.levels.Statement.{statement}
 use Rattle.checker.proofs.side.levels.Tie as tie

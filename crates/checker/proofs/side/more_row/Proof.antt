@@ -6,7 +6,7 @@ use borrow.Author.Needs.{needs}
 use borrow.Author.Tests.{lt-ltb, le-ltb}
 use lib.ListN.{length}
 use Rattle.switch.proofs.Search.{Passed, passed-none, passed-more, row-refuses, row-accepts}
-use Rattle.checker.specs.Worked.{moreRow}
+use Rattle.worked.specs.Worked.{moreRow}
 use Rattle.checker.proofs.side.more_row.Statement.{statement}
 use Rattle.checker.proofs.side.more_row.Tie as tie
 

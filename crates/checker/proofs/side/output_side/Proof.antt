@@ -5,8 +5,8 @@ use native.Mathlib.Omega.{arith}
 use borrow.Author.Needs.{needs}
 use lib.ListN.{length}
 use Rattle.switch.specs.Cells.{output}
-use Rattle.shares.specs.Port.{outputPort}
-use Rattle.shares.specs.declared.port.Port.{Port}
+use Rattle.worked.specs.Port.{outputPort}
+use Rattle.worked.specs.declared.port.Port.{Port}
 use Rattle.laws.proofs.Filled.{Filled, filled-none, filled-next, filled-all}
 use Rattle.checker.proofs.side.output_side.Statement.{statement}
 use Rattle.checker.proofs.side.output_side.Tie as tie

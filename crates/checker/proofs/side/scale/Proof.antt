@@ -4,7 +4,7 @@ use mathlib.Core.Path.{_≡_, refl, _∙_, ap}
 use native.Mathlib.Omega.{arith}
 use borrow.Author.Needs.{needs}
 use lib.ListN.{length, getD}
-use Rattle.shares.specs.Saturated.{capped}
+use Rattle.worked.specs.Saturated.{capped}
 use Rattle.laws.proofs.Filled.{Filled, filled-none, filled-next, filled-all}
 use Rattle.checker.proofs.side.scale.Statement.{statement}
 use Rattle.checker.proofs.side.scale.Tie as tie

@@ -2,8 +2,8 @@
 use mathlib.Core.Path.{_∙_, ap, sym, subst}
 use borrow.Author.Needs.{needs}
 use denote.Ref.{now}
-use Rattle.export.specs.Code.{codeOf, Placed}
-use Rattle.export.proofs.Places.{check-placed}
+use Rattle.codes.specs.Code.{codeOf, Placed}
+use Rattle.codes.proofs.Places.{check-placed}
 use Rattle.export.proofs.calls.rate_plan_check.Statement.{statement}
 use Rattle.export.proofs.calls.rate_plan_check.Tie as tie
 

@@ -1,7 +1,7 @@
 -- `rate_plan_list` meets its contract: the length that listing gives, as a wider number.
 use mathlib.Core.Path.{ap}
 use borrow.Author.Needs.{needs}
-use Rattle.listing.specs.declared.list.Listed.{Listed}
+use Rattle.texts.specs.declared.list.Listed.{Listed}
 use Rattle.export.proofs.calls.rate_plan_list.Statement.{statement}
 use Rattle.export.proofs.calls.rate_plan_list.Tie as tie
 

@@ -2,10 +2,10 @@
 use mathlib.Core.Path.{_≡_, _∙_, ap, sym, subst}
 use borrow.Author.Needs.{needs}
 use denote.Ref.{now}
-use Rattle.files.specs.RequestFile.{readVerdict}
-use Rattle.files.specs.declared.request.RequestRead.{RequestRead}
-use Rattle.export.specs.Code.{codeOf, Placed}
-use Rattle.export.proofs.Places.{read-placed}
+use Rattle.formats.specs.RequestFile.{readVerdict}
+use Rattle.formats.specs.declared.request.RequestRead.{RequestRead}
+use Rattle.codes.specs.Code.{codeOf, Placed}
+use Rattle.codes.proofs.Places.{read-placed}
 use Rattle.export.proofs.calls.rate_plan_read.Statement.{statement}
 use Rattle.export.proofs.calls.rate_plan_read.Tie as tie
 

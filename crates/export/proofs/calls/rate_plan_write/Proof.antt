@@ -4,14 +4,14 @@ use borrow.Author.Needs.{needs}
 use denote.Ref.{now}
 use Rattle.switch.specs.declared.request.Request.{Request}
 use Rattle.switch.specs.declared.verdict.Verdict.the-variants.{Accepted}
-use Rattle.files.specs.PlanFile.{planWritten}
-use Rattle.files.specs.RequestFile.{requestIn, readVerdict}
-use Rattle.files.specs.Writing.{writeVerdict}
-use Rattle.files.specs.declared.request.RequestRead.{RequestRead}
-use Rattle.files.proofs.RequestFile.{read-accepted}
-use Rattle.export.specs.Code.{codeOf, Placed}
-use Rattle.export.proofs.Places.{read-placed, write-placed}
-use Rattle.export.proofs.PlanLaid.{verdict-of-read, laid-of-read, verdict-of-refused, laid-of-refused}
+use Rattle.formats.specs.PlanFile.{planWritten}
+use Rattle.formats.specs.RequestFile.{requestIn, readVerdict}
+use Rattle.formats.specs.Writing.{writeVerdict}
+use Rattle.formats.specs.declared.request.RequestRead.{RequestRead}
+use Rattle.formats.proofs.RequestFile.{read-accepted}
+use Rattle.codes.specs.Code.{codeOf, Placed}
+use Rattle.codes.proofs.Places.{read-placed, write-placed}
+use Rattle.codes.proofs.PlanLaid.{verdict-of-read, laid-of-read, verdict-of-refused, laid-of-refused}
 use Rattle.export.proofs.calls.rate_plan_write.Statement.{statement}
 use Rattle.export.proofs.calls.rate_plan_write.Tie as tie
 

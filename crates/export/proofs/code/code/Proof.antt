@@ -5,7 +5,7 @@ use borrow.Author.Needs.{needs}
 use Rattle.switch.specs.declared.verdict.Refusal.{Refusal}
 use Rattle.switch.specs.declared.verdict.Verdict.{Verdict}
 use Rattle.switch.specs.declared.verdict.Verdict.the-variants.{Refused}
-use Rattle.export.specs.Code.{codeOf, Placed}
+use Rattle.codes.specs.Code.{codeOf, Placed}
 use Rattle.export.proofs.code.code.Statement.{statement}
 use Rattle.export.proofs.code.code.Tie as tie
 

@@ -1,7 +1,7 @@
 -- `packed` meets its contract: no number is above 16, so that it fits into the upper bits.
 use native.Mathlib.Omega.{arith}
 use borrow.Author.Needs.{needs}
-use Rattle.export.proofs.Places.{number-in-table}
+use Rattle.codes.proofs.Places.{number-in-table}
 use Rattle.export.proofs.code.packed.Statement.{statement}
 use Rattle.export.proofs.code.packed.Tie as tie
 

@@ -1,8 +1,7 @@
 -- `check` meets its contract: a refused length is the table's first row, and otherwise all rows are asked.
-use mathlib.Core.Path.{_≡_, sym, _∙_}
+use mathlib.Core.Path.{_≡_, sym}
 use mathlib.Core.List.{List, _∷_}
 use borrow.Author.Needs.{needs}
-use denote.Ref.{now}
 use Rattle.switch.specs.Rows.{Row, rowVerdict, verdictOf}
 use Rattle.switch.specs.declared.verdict.Refusal.{Refusal}
 use Rattle.switch.specs.declared.verdict.Verdict.{Verdict}

@@ -5,7 +5,7 @@ use native.Mathlib.Omega.{arith}
 use borrow.Author.Needs.{needs}
 use denote.Ref.{now}
 use Rattle.switch.specs.declared.verdict.Verdict.the-variants.{Accepted}
-use Rattle.files.specs.PlanFile.{checkVerdict}
+use Rattle.formats.specs.PlanFile.{checkVerdict}
 use Rattle.files.proofs.Checked.{length-of-accepted}
 use Rattle.files.proofs.choose.choose.Statement.{statement}
 use Rattle.files.proofs.choose.choose.Tie as tie

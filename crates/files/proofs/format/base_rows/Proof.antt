@@ -9,7 +9,7 @@ use denote.Ref.{now}
 use Rattle.switch.specs.Rows.{orElse, rowVerdict, verdictOf}
 use Rattle.switch.proofs.Rows.{or-else-accepted}
 use Rattle.switch.proofs.Search.{passed-none, passed-more, row-refuses, row-accepts}
-use Rattle.files.specs.PlanFile.{baseIn, baseDiffersRow}
+use Rattle.formats.specs.PlanFile.{baseIn, baseDiffersRow}
 use Rattle.files.proofs.format.base_rows.Statement.{statement}
 use Rattle.files.proofs.format.base_rows.Tie as tie
 

@@ -6,8 +6,8 @@ use denote.Ref.{now}
 use Rattle.switch.specs.Rows.{Row, joined, rowVerdict, orElse}
 use Rattle.switch.specs.Tables.{requestOf}
 use Rattle.switch.proofs.Rows.{or-else-assoc, joined-verdict}
-use Rattle.checker.specs.PlanRows.{planWith, halfNotZero}
-use Rattle.files.specs.FileRows.{spareRow}
+use Rattle.judging.specs.PlanRows.{planWith, halfNotZero}
+use Rattle.formats.specs.FileRows.{spareRow}
 use Rattle.files.proofs.format.zeros_row.Statement.{statement}
 use Rattle.files.proofs.format.zeros_row.Tie as tie
 

@@ -2,7 +2,7 @@
 use native.Mathlib.Omega.{arith}
 use borrow.Author.Needs.{needs}
 use borrow.Author.Tests.{lt-ltb, le-ltb}
-use Rattle.files.specs.PlanFile.{planWord}
+use Rattle.formats.specs.PlanFile.{planWord}
 use Rattle.files.proofs.layout.plan_word.Statement.{statement}
 use Rattle.files.proofs.layout.plan_word.Tie as tie
 

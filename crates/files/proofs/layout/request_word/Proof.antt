@@ -1,7 +1,7 @@
 -- `request_word` meets its contract: it asks for the word's place as the definition does.
 use borrow.Author.Needs.{needs}
 use borrow.Author.Tests.{lt-ltb, le-ltb}
-use Rattle.files.specs.RequestFile.{requestWord}
+use Rattle.formats.specs.RequestFile.{requestWord}
 use Rattle.files.proofs.layout.request_word.Statement.{statement}
 use Rattle.files.proofs.layout.request_word.Tie as tie
 

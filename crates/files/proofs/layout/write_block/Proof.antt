@@ -7,12 +7,12 @@ use borrow.Author.Count.{below-none, below-more}
 use borrow.Author.Needs.{needs}
 use denote.Ref.{now}
 use lib.ListN.{length, drop}
-use Rattle.blocks.specs.Words.{withWord, laid}
-use Rattle.blocks.specs.Check.{sealedIn}
-use Rattle.blocks.proofs.Words.{length-with-word, laid-more}
-use Rattle.blocks.proofs.Sealed.{seal-laid}
+use Rattle.words.specs.Words.{withWord, laid}
+use Rattle.words.specs.Check.{sealedIn}
+use Rattle.words.proofs.Words.{length-with-word, laid-more}
+use Rattle.words.proofs.Sealed.{seal-laid}
 use Rattle.switch.specs.Tables.{requestOf}
-use Rattle.files.specs.RequestFile.{requestWord}
+use Rattle.formats.specs.RequestFile.{requestWord}
 use Rattle.files.proofs.layout.write_block.Statement.{statement}
 use Rattle.files.proofs.layout.write_block.Tie as tie
 

@@ -6,12 +6,12 @@ use borrow.Author.Count.{below-none, below-more}
 use borrow.Author.Needs.{needs}
 use denote.Ref.{now}
 use lib.ListN.{length}
-use Rattle.blocks.specs.Words.{withWord}
-use Rattle.blocks.specs.Check.{sealedIn, startOf}
-use Rattle.blocks.proofs.Words.{length-with-word}
-use Rattle.blocks.proofs.Sealed.{laidIn, none-laid-in, laid-in-more, seal-laid-in}
-use Rattle.checker.specs.PlanRows.{planWith}
-use Rattle.files.specs.PlanFile.{planWord}
+use Rattle.words.specs.Words.{withWord}
+use Rattle.words.specs.Check.{sealedIn, startOf}
+use Rattle.words.proofs.Words.{length-with-word}
+use Rattle.words.proofs.Sealed.{laidIn, none-laid-in, laid-in-more, seal-laid-in}
+use Rattle.judging.specs.PlanRows.{planWith}
+use Rattle.formats.specs.PlanFile.{planWord}
 use Rattle.files.proofs.layout.write_half.Statement.{statement}
 use Rattle.files.proofs.layout.write_half.Tie as tie
 

@@ -7,11 +7,11 @@ use borrow.Author.Needs.{needs}
 use denote.Ref.{now}
 use lib.ListN.{length, take, drop, length-append}
 use lib.Seq.{take-at, drop-append-add, drop-drop}
-use Rattle.blocks.specs.Check.{startOf}
-use Rattle.blocks.proofs.Sealed.{length-block}
-use Rattle.files.specs.PlanFile.{planWord, planBlock}
-use Rattle.files.specs.RequestFile.{requestFile}
-use Rattle.files.proofs.RequestFile.{length-file}
+use Rattle.words.specs.Check.{startOf}
+use Rattle.words.proofs.Sealed.{length-block}
+use Rattle.formats.specs.PlanFile.{planWord, planBlock}
+use Rattle.formats.specs.RequestFile.{requestFile}
+use Rattle.formats.proofs.RequestFile.{length-file}
 use Rattle.files.proofs.plan.write_blocks.Statement.{statement}
 use Rattle.files.proofs.plan.write_blocks.Tie as tie
 

@@ -6,18 +6,16 @@ use denote.Ref.{now}
 use lib.ListN.{drop}
 use Rattle.switch.specs.Planned.{planOf}
 use Rattle.switch.specs.RequestRows.{requestRows}
-use Rattle.switch.specs.Rows.{orElse, verdictOf, ifAccepted}
-use Rattle.switch.specs.Values.{emptyPlan}
+use Rattle.switch.specs.Rows.{orElse, verdictOf}
 use Rattle.switch.specs.declared.plan.Plan.{Plan}
-use Rattle.switch.specs.declared.verdict.Verdict.{Verdict}
 use Rattle.switch.specs.declared.verdict.Verdict.the-variants.{Accepted}
 use Rattle.switch.proofs.Rows.{or-else-accepted, verdict-append}
-use Rattle.switch.proofs.Within.{accepted-of-within}
-use Rattle.planner.specs.declared.plan.Planned.{Planned}
-use Rattle.files.specs.FileRows.{roomRow}
-use Rattle.files.specs.PlanFile.{planFile}
-use Rattle.files.specs.Writing.{writeVerdict}
-use Rattle.files.proofs.Saving.{room-of-accepted, written-accepted, refused-write-keeps}
+use Rattle.switch.proofs.Answer.{plan-within}
+use Rattle.switch.specs.declared.plan.Planned.{Planned}
+use Rattle.formats.specs.FileRows.{roomRow}
+use Rattle.formats.specs.PlanFile.{planFile}
+use Rattle.formats.specs.Writing.{writeVerdict}
+use Rattle.formats.proofs.Saving.{room-of-accepted, written-accepted, refused-write-keeps}
 use Rattle.files.proofs.plan.write_plan.Statement.{statement}
 use Rattle.files.proofs.plan.write_plan.Tie as tie
 
@@ -45,7 +43,7 @@ plan-of-request c =
     let r = args .request in
     let within = room-of-accepted 1536 r (now (args .buffer)) (accepted c) .0 in
     ap (λ (x : Planned). x .plan) (c .before .before .before .before .before .plan .ensures .0)
-    ∙ ap (λ (v : Verdict). ifAccepted v (planOf r) emptyPlan) (accepted-of-within r within)
+    ∙ plan-within r within
 
 write-blocks-requires : tie.Need-write-blocks-requires
 write-blocks-requires c κs =

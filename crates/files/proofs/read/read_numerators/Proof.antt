@@ -5,9 +5,9 @@ use mathlib.Core.List.{List}
 use native.Mathlib.Omega.{arith}
 use borrow.Author.Needs.{needs}
 use denote.Ref.{now}
-use Rattle.blocks.specs.Words.{wordAt}
-use Rattle.checker.specs.Places.{lowWord, highWord}
-use Rattle.files.specs.PlanFile.{wide}
+use Rattle.words.specs.Words.{wordAt}
+use Rattle.judging.specs.Places.{lowWord, highWord}
+use Rattle.formats.specs.PlanFile.{wide}
 use Rattle.laws.proofs.Filled.{Filled, filled-none, filled-next, filled-as, filled-all}
 use Rattle.files.proofs.read.read_numerators.Statement.{statement}
 use Rattle.files.proofs.read.read_numerators.Tie as tie

@@ -6,7 +6,7 @@ use native.Mathlib.Omega.{arith}
 use borrow.Author.Needs.{needs}
 use denote.Ref.{now}
 use lib.ListN.{getD}
-use Rattle.checker.specs.Places.{reasonByte}
+use Rattle.judging.specs.Places.{reasonByte}
 use Rattle.laws.proofs.Filled.{Filled, filled-none, filled-next, filled-as, filled-all}
 use Rattle.files.proofs.read.read_reasons.Statement.{statement}
 use Rattle.files.proofs.read.read_reasons.Tie as tie

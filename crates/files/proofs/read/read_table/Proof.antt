@@ -9,7 +9,7 @@ use lib.ListN.{length, set, drop, length-set}
 use lib.Seq.{drop-length}
 use Rattle.laws.specs.Lists.{list, listFrom}
 use Rattle.laws.proofs.Lists.{filled-more}
-use Rattle.blocks.specs.Words.{wordAt}
+use Rattle.words.specs.Words.{wordAt}
 use Rattle.files.proofs.read.read_table.Statement.{statement}
 use Rattle.files.proofs.read.read_table.Tie as tie
 

@@ -10,8 +10,8 @@ use Rattle.switch.specs.Values.{zeroRequest}
 use Rattle.switch.specs.declared.request.Request.{Request}
 use Rattle.switch.specs.declared.verdict.Verdict.{Verdict}
 use Rattle.switch.proofs.Rows.{verdict-joined}
-use Rattle.files.specs.FileRows.{lengthRow, checkRow, kindRow, spareRow}
-use Rattle.files.specs.RequestFile.{requestIn, readVerdict}
+use Rattle.formats.specs.FileRows.{lengthRow, checkRow, kindRow, spareRow}
+use Rattle.formats.specs.RequestFile.{requestIn, readVerdict}
 use Rattle.files.proofs.request.read_request.Statement.{statement}
 use Rattle.files.proofs.request.read_request.Tie as tie
 

@@ -7,10 +7,10 @@ use Rattle.switch.specs.RequestRows.{requestRows}
 use Rattle.switch.specs.Rows.{orElse, verdictOf}
 use Rattle.switch.specs.declared.verdict.Verdict.the-variants.{Accepted}
 use Rattle.switch.proofs.Rows.{or-else-accepted, verdict-append}
-use Rattle.files.specs.FileRows.{roomRow}
-use Rattle.files.specs.RequestFile.{requestFile}
-use Rattle.files.specs.Writing.{writeVerdict}
-use Rattle.files.proofs.Saving.{room-of-accepted, written-accepted, refused-write-keeps}
+use Rattle.formats.specs.FileRows.{roomRow}
+use Rattle.formats.specs.RequestFile.{requestFile}
+use Rattle.formats.specs.Writing.{writeVerdict}
+use Rattle.formats.proofs.Saving.{room-of-accepted, written-accepted, refused-write-keeps}
 use Rattle.files.proofs.request.write_request.Statement.{statement}
 use Rattle.files.proofs.request.write_request.Tie as tie
 

@@ -5,9 +5,9 @@ use mathlib.Core.Bool.{not}
 use native.Mathlib.Omega.{arith}
 use borrow.Author.Needs.{needs}
 use denote.Ref.{now}
-use Rattle.blocks.specs.Check.{sealed, startOf, wordIn}
+use Rattle.words.specs.Check.{sealed, startOf, wordIn}
 use Rattle.switch.proofs.Search.{Passed, passed-none, passed-more, row-refuses, row-accepts}
-use Rattle.files.specs.FileRows.{checkRow}
+use Rattle.formats.specs.FileRows.{checkRow}
 use Rattle.files.proofs.rows.check_row.Statement.{statement}
 use Rattle.files.proofs.rows.check_row.Tie as tie
 

@@ -8,7 +8,7 @@ use borrow.Author.Needs.{needs}
 use borrow.Author.Tests.{eq-eqb, ne-eqb}
 use lib.ListN.{length}
 use Rattle.switch.proofs.Search.{Passed, passed-none, passed-more, row-refuses, row-accepts}
-use Rattle.files.specs.FileRows.{kindRow}
+use Rattle.formats.specs.FileRows.{kindRow}
 use Rattle.files.proofs.rows.kind_row.Statement.{statement}
 use Rattle.files.proofs.rows.kind_row.Tie as tie
 

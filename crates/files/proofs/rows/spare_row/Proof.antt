@@ -5,7 +5,7 @@ use native.Mathlib.Omega.{arith}
 use borrow.Author.Needs.{needs}
 use borrow.Author.Tests.{lt-ltb, le-ltb}
 use Rattle.switch.proofs.Search.{Passed, passed-none, passed-more, row-refuses, row-accepts}
-use Rattle.files.specs.FileRows.{spareRow}
+use Rattle.formats.specs.FileRows.{spareRow}
 use Rattle.files.proofs.rows.spare_row.Statement.{statement}
 use Rattle.files.proofs.rows.spare_row.Tie as tie
 

@@ -8,10 +8,10 @@ use denote.Ref.{now}
 use lib.ListN.{length}
 use Rattle.switch.specs.Cells.{input}
 use Rattle.switch.specs.Tables.{requestOf}
-use Rattle.checker.specs.PlanRows.{planWith}
-use Rattle.listing.specs.Appended.{Appended}
-use Rattle.listing.specs.Listing.{inputLines, each}
-use Rattle.listing.proofs.Pieces.{appended-none, length-kept, each-more, room-each}
+use Rattle.judging.specs.PlanRows.{planWith}
+use Rattle.texts.specs.Appended.{Appended}
+use Rattle.texts.specs.Listing.{inputLines, each}
+use Rattle.texts.proofs.Pieces.{appended-none, length-kept, each-more, room-each}
 use Rattle.listing.proofs.lines.cell_lines.Statement.{statement}
 use Rattle.listing.proofs.lines.cell_lines.Tie as tie
 

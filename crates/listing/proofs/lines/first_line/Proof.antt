@@ -4,10 +4,10 @@ use mathlib.Core.List.{List, [], _∷_, _++_}
 use borrow.Author.Needs.{needs}
 use denote.Ref.{now}
 use lib.ListN.{length}
-use Rattle.listing.specs.Ascii.{ascii}
-use Rattle.listing.specs.Decimal.{decimal}
-use Rattle.listing.specs.Listing.{line, firstLine}
-use Rattle.listing.proofs.Pieces.{appended-then, room-first, room-then}
+use Rattle.texts.specs.Ascii.{ascii}
+use Rattle.texts.specs.Decimal.{decimal}
+use Rattle.texts.specs.Listing.{line, firstLine}
+use Rattle.texts.proofs.Pieces.{appended-then, room-first, room-then}
 use Rattle.listing.proofs.lines.first_line.Statement.{statement}
 use Rattle.listing.proofs.lines.first_line.Tie as tie
 

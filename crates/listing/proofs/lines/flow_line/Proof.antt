@@ -4,9 +4,9 @@ use mathlib.Core.List.{List, [], _∷_, _++_}
 use borrow.Author.Needs.{needs}
 use denote.Ref.{now}
 use lib.ListN.{length}
-use Rattle.listing.specs.Decimal.{decimal}
-use Rattle.listing.specs.Listing.{line, flowLine}
-use Rattle.listing.proofs.Pieces.{appended-then, room-first, room-then}
+use Rattle.texts.specs.Decimal.{decimal}
+use Rattle.texts.specs.Listing.{line, flowLine}
+use Rattle.texts.proofs.Pieces.{appended-then, room-first, room-then}
 use Rattle.listing.proofs.lines.flow_line.Statement.{statement}
 use Rattle.listing.proofs.lines.flow_line.Tie as tie
 

@@ -9,10 +9,10 @@ use lib.ListN.{length, getD}
 use Rattle.switch.specs.Cells.{output}
 use Rattle.switch.specs.Tables.{requestOf}
 use Rattle.switch.specs.declared.port.Input.{Input}
-use Rattle.checker.specs.PlanRows.{planWith}
-use Rattle.listing.specs.Appended.{Appended}
-use Rattle.listing.specs.Listing.{flowLine, cellLine, each}
-use Rattle.listing.proofs.Pieces.{appended-none, appended-as, length-kept, each-more, room-each}
+use Rattle.judging.specs.PlanRows.{planWith}
+use Rattle.texts.specs.Appended.{Appended}
+use Rattle.texts.specs.Listing.{flowLine, cellLine, each}
+use Rattle.texts.proofs.Pieces.{appended-none, appended-as, length-kept, each-more, room-each}
 use Rattle.listing.proofs.lines.input_lines.Statement.{statement}
 use Rattle.listing.proofs.lines.input_lines.Tie as tie
 

@@ -7,11 +7,11 @@ use borrow.Author.Needs.{needs}
 use denote.Ref.{now}
 use lib.ListN.{length}
 use Rattle.switch.specs.Tables.{requestOf}
-use Rattle.checker.specs.PlanRows.{planWith}
-use Rattle.listing.specs.Ascii.{ascii}
-use Rattle.listing.specs.Decimal.{decimal}
-use Rattle.listing.specs.Listing.{line, firstLine, cellLines, lastLine, planText}
-use Rattle.listing.proofs.Pieces.{appended-then, room-first, room-then}
+use Rattle.judging.specs.PlanRows.{planWith}
+use Rattle.texts.specs.Ascii.{ascii}
+use Rattle.texts.specs.Decimal.{decimal}
+use Rattle.texts.specs.Listing.{line, firstLine, cellLines, lastLine, planText}
+use Rattle.texts.proofs.Pieces.{appended-then, room-first, room-then}
 use Rattle.listing.proofs.lines.plan_text.Statement.{statement}
 use Rattle.listing.proofs.lines.plan_text.Tie as tie
 

@@ -6,11 +6,11 @@ use borrow.Author.Needs.{needs}
 use denote.Ref.{now}
 use lib.ListN.{length}
 use Rattle.switch.specs.Numbering.{numberOf}
-use Rattle.listing.specs.Appended.{Appended}
-use Rattle.listing.specs.Ascii.{ascii}
-use Rattle.listing.specs.Decimal.{decimal}
-use Rattle.listing.specs.Listing.{line, refusedText}
-use Rattle.listing.proofs.Pieces.{appended-as, appended-then, room-first, room-then}
+use Rattle.texts.specs.Appended.{Appended}
+use Rattle.texts.specs.Ascii.{ascii}
+use Rattle.texts.specs.Decimal.{decimal}
+use Rattle.texts.specs.Listing.{line, refusedText}
+use Rattle.texts.proofs.Pieces.{appended-as, appended-then, room-first, room-then}
 use Rattle.listing.proofs.lines.refused_text.Statement.{statement}
 use Rattle.listing.proofs.lines.refused_text.Tie as tie
 

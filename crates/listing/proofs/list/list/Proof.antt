@@ -8,10 +8,10 @@ use denote.Ref.{now}
 use lib.ListN.{length, take}
 use lib.Seq.{length-take-le}
 use Rattle.switch.specs.declared.verdict.Verdict.the-variants.{Accepted}
-use Rattle.listing.specs.Listing.{listingOf}
-use Rattle.listing.proofs.Fits.{text-fits}
-use Rattle.listing.proofs.Pieces.{appended-as, length-kept, text-end, text-in-front, text-taken}
-use Rattle.listing.proofs.Room.{listed-without-room, listed-with-room}
+use Rattle.texts.specs.Listing.{listingOf}
+use Rattle.texts.proofs.Fits.{text-fits}
+use Rattle.texts.proofs.Pieces.{appended-as, length-kept, text-end, text-in-front, text-taken}
+use Rattle.texts.proofs.Room.{listed-without-room, listed-with-room}
 use Rattle.listing.proofs.list.list.Statement.{statement}
 use Rattle.listing.proofs.list.list.Tie as tie
 

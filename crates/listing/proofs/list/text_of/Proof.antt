@@ -7,26 +7,25 @@ use borrow.Author.Needs.{needs}
 use denote.Ref.{now}
 use lib.ListN.{length}
 use Rattle.laws.proofs.Lists.{length-list}
+use Rattle.switch.specs.Answer.{planned}
 use Rattle.switch.specs.Planned.{planOf}
-use Rattle.switch.specs.RequestRows.{requestVerdict}
-use Rattle.switch.specs.Rows.{ifAccepted}
 use Rattle.switch.specs.Tables.{requestOf}
-use Rattle.switch.specs.Values.{zeroRequest, emptyPlan}
 use Rattle.switch.specs.Within.{Within}
 use Rattle.switch.specs.declared.plan.Plan.{Plan}
 use Rattle.switch.specs.declared.request.Request.{Request}
 use Rattle.switch.specs.declared.verdict.Verdict.{Verdict}
 use Rattle.switch.specs.declared.verdict.Verdict.the-variants.{Accepted}
 use Rattle.switch.proofs.Planned.{right-planOf}
-use Rattle.switch.proofs.Within.{accepted-of-within}
-use Rattle.planner.specs.declared.plan.Planned.{Planned}
-use Rattle.checker.specs.PlanRows.{planWith}
-use Rattle.files.specs.RequestFile.{requestIn, readVerdict}
-use Rattle.files.specs.declared.request.RequestRead.{RequestRead}
-use Rattle.files.proofs.Sound.{sound-of-accepted}
-use Rattle.listing.specs.Listing.{planText, refusedText, textOf, listingOf}
-use Rattle.listing.proofs.Fits.{text-fits}
-use Rattle.listing.proofs.Pieces.{appended-as}
+use Rattle.switch.proofs.Answer.{plan-within}
+use Rattle.switch.specs.declared.plan.Planned.{Planned}
+use Rattle.judging.specs.PlanRows.{planWith}
+use Rattle.formats.specs.RequestFile.{requestIn, readVerdict}
+use Rattle.formats.specs.declared.request.RequestRead.{RequestRead}
+use Rattle.formats.proofs.RequestFile.{read-accepted}
+use Rattle.formats.proofs.Sound.{sound-of-accepted}
+use Rattle.texts.specs.Listing.{planText, refusedText, textOf, listingOf}
+use Rattle.texts.proofs.Fits.{text-fits}
+use Rattle.texts.proofs.Pieces.{appended-as}
 use Rattle.listing.proofs.list.text_of.Statement.{statement}
 use Rattle.listing.proofs.list.text_of.Tie as tie
 
@@ -45,16 +44,13 @@ within c = sound-of-accepted (fileOf (c .before .before)) (accepted c) .within
 
 request : (c : tie.After-enum-told) → c .before .before .read-request .result .request ≡ requestIn (fileOf (c .before .before))
 request c =
-    ap (λ (x : RequestRead). x .request) (c .before .before .read-request .ensures)
-    ∙ ap (λ (v : Verdict). ifAccepted v (requestIn (fileOf (c .before .before))) zeroRequest) (accepted c)
+    ap (λ (x : RequestRead). x .request) (c .before .before .read-request .ensures ∙ read-accepted _ (accepted c))
 
 plan : (c : tie.After-plan) → c .plan .result .plan ≡ planOf (requestIn (fileOf (c .before .before .before .before)))
 plan c =
     let told = c .before .before in
     let r = requestIn (fileOf (told .before .before)) in
-    ap (λ (x : Planned). x .plan) (c .plan .ensures .0)
-    ∙ ap (λ (r : Request). ifAccepted (requestVerdict r) (planOf r) emptyPlan) (request told)
-    ∙ ap (λ (v : Verdict). ifAccepted v (planOf r) emptyPlan) (accepted-of-within r (within told))
+    ap (λ (x : Planned). x .plan) (c .plan .ensures .0 ∙ ap planned (request told)) ∙ plan-within r (within told)
 
 -- What is handed over of a request and of its plan.
 abbrev tablesOf : Request → Request

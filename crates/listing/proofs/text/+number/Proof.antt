@@ -7,8 +7,8 @@ use borrow.Fn.Kinds.{In}
 use borrow.Fn.PlainCycle.{Measures, is, falls, and}
 use denote.Ref.{now}
 use lib.ListN.{length-set}
-use Rattle.listing.proofs.Decimal.{decimal-small, decimal-large, length-small, length-large}
-use Rattle.listing.proofs.Pieces.{appended-none, appended-as, appended-byte, length-kept}
+use Rattle.texts.proofs.Decimal.{decimal-small, decimal-large, length-small, length-large}
+use Rattle.texts.proofs.Pieces.{appended-none, appended-as, appended-byte, length-kept}
 use Rattle.listing.proofs.text.number.Reads as number
 use Rattle.listing.proofs.text.number.Kinds as number-kinds
 use Rattle.listing.proofs.text.+number.Lts-number as number-lts

@@ -5,8 +5,8 @@ use native.Mathlib.Omega.{arith}
 use borrow.Author.Needs.{needs}
 use denote.Ref.{now}
 use lib.ListN.{length}
-use Rattle.listing.specs.Decimal.{decimal}
-use Rattle.listing.proofs.Pieces.{appended-byte, room-first, room-then}
+use Rattle.texts.specs.Decimal.{decimal}
+use Rattle.texts.proofs.Pieces.{appended-byte, room-first, room-then}
 use Rattle.listing.proofs.text.field.Statement.{statement}
 use Rattle.listing.proofs.text.field.Tie as tie
 

@@ -7,8 +7,8 @@ use borrow.Author.Needs.{needs}
 use denote.Ref.{now}
 use lib.ListN.{length, take, length-set}
 use lib.Seq.{take-length}
-use Rattle.listing.specs.Appended.{Appended}
-use Rattle.listing.proofs.Pieces.{appended-none, appended-as, copied-more}
+use Rattle.texts.specs.Appended.{Appended}
+use Rattle.texts.proofs.Pieces.{appended-none, appended-as, copied-more}
 use Rattle.listing.proofs.text.word.Statement.{statement}
 use Rattle.listing.proofs.text.word.Tie as tie
 

@@ -9,9 +9,9 @@ use Rattle.switch.specs.declared.request.Request.{Request}
 use Rattle.switch.specs.declared.verdict.Verdict.{Verdict}
 use Rattle.switch.specs.declared.verdict.Verdict.the-variants.{Accepted}
 use Rattle.switch.proofs.Within.{within-of-accepted}
-use Rattle.planner.specs.Planned.{planned, Promised}
-use Rattle.planner.specs.declared.plan.Planned.{Planned}
-use Rattle.planner.proofs.Answer.{planned-as-promised}
+use Rattle.switch.specs.Answer.{planned, Promised}
+use Rattle.switch.specs.declared.plan.Planned.{Planned}
+use Rattle.switch.proofs.Answer.{planned-as-promised}
 use Rattle.planner.proofs.plan.plan.Statement.{statement}
 use Rattle.planner.proofs.plan.plan.Tie as tie
 

@@ -9,8 +9,8 @@ use Rattle.laws.specs.Lists.{list}
 use Rattle.fairness.specs.Fairness.{Fair}
 use Rattle.fairness.specs.Filling.{over}
 use Rattle.switch.specs.Planned.{capacityOf}
-use Rattle.shares.specs.Reason.{reasonsAt}
-use Rattle.planner.specs.Planned.{portsOf}
+use Rattle.worked.specs.Reason.{reasonsAt}
+use Rattle.planner.specs.Ports.{portsOf}
 use Rattle.planner.specs.Limits.{problem}
 use Rattle.planner.specs.Engine.{Modest}
 use Rattle.planner.proofs.Ports.{modest-ports}

@@ -3,7 +3,7 @@ use Prim.Native.Nat.{_/_, _%_}
 use mathlib.Core.Path.{_∙_}
 use native.Mathlib.Omega.{arith}
 use borrow.Author.Needs.{needs}
-use Rattle.shares.proofs.Saturated.{product-below, product-split}
+use Rattle.worked.proofs.Saturated.{product-below, product-split}
 use Rattle.shares.proofs.arithmetic.times.Statement.{statement}
 use Rattle.shares.proofs.arithmetic.times.Tie as tie
 

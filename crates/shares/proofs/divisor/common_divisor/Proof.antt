@@ -7,7 +7,7 @@ use denote.Ref.{now}
 use lib.ListN.{length, drop}
 use lib.Seq.{drop-length}
 use Rattle.fairness.specs.Divisor.{gcdOf}
-use Rattle.shares.proofs.Divisors.{gcdOf-step, gcdOf-none, gcdOf-one}
+use Rattle.worked.proofs.Divisors.{gcdOf-step, gcdOf-none, gcdOf-one}
 use Rattle.shares.proofs.divisor.common_divisor.Statement.{statement}
 use Rattle.shares.proofs.divisor.common_divisor.Tie as tie
 

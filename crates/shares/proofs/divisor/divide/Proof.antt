@@ -8,7 +8,7 @@ use denote.Ref.{now}
 use lib.ListN.{length, take, drop, length-set}
 use lib.Seq.{take-length, drop-length}
 use Rattle.fairness.specs.Divisor.{divided}
-use Rattle.shares.proofs.Divisors.{map-more}
+use Rattle.worked.proofs.Divisors.{map-more}
 use Rattle.shares.proofs.divisor.divide.Statement.{statement}
 use Rattle.shares.proofs.divisor.divide.Tie as tie
 

@@ -4,7 +4,7 @@ use native.Mathlib.Nat.{mod-lt}
 use native.Mathlib.Omega.{arith}
 use Rattle.fairness.specs.Divisor.{gcd}
 use Rattle.fairness.proofs.Divisors.{gcd-comm}
-use Rattle.shares.proofs.Divisors.{gcd-step, gcd-zero}
+use Rattle.worked.proofs.Divisors.{gcd-step, gcd-zero}
 use Rattle.shares.proofs.divisor.divisor.Statement.{statement}
 use Rattle.shares.proofs.divisor.divisor.Tie as tie
 

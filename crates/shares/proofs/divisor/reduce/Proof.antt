@@ -6,7 +6,7 @@ use borrow.Author.Needs.{needs}
 use denote.Ref.{now}
 use Rattle.fairness.specs.Divisor.{gcdOf, divided}
 use Rattle.fairness.proofs.Divisors.{gcdOf-is}
-use Rattle.shares.proofs.Divisors.{reduced-below-two}
+use Rattle.worked.proofs.Divisors.{reduced-below-two}
 use Rattle.shares.proofs.divisor.reduce.Statement.{statement}
 use Rattle.shares.proofs.divisor.reduce.Tie as tie
 

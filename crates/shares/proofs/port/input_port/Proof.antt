@@ -8,8 +8,8 @@ use denote.Ref.{now}
 use lib.ListN.{getD}
 use Rattle.switch.specs.Cells.{output, cellOf}
 use Rattle.switch.specs.declared.port.Input.{Input}
-use Rattle.shares.specs.Saturated.{ports}
-use Rattle.shares.proofs.Ports.{Walked, walked-none, walked-more, walked-all}
+use Rattle.worked.specs.Saturated.{ports}
+use Rattle.worked.proofs.Ports.{Walked, walked-none, walked-more, walked-all}
 use Rattle.shares.proofs.port.input_port.Statement.{statement}
 use Rattle.shares.proofs.port.input_port.Tie as tie
 

@@ -8,10 +8,10 @@ use borrow.Author.Needs.{needs}
 use denote.Ref.{now}
 use lib.Dec.{eqb}
 use lib.ListN.{length, getD, set, length-set}
-use Rattle.shares.specs.Saturated.{capped, ports}
-use Rattle.shares.specs.Overwritten.{overwritten}
-use Rattle.shares.specs.Reason.{reasonGiven}
-use Rattle.shares.proofs.Rows.{overwritten-more}
+use Rattle.worked.specs.Saturated.{capped, ports}
+use Rattle.worked.specs.Overwritten.{overwritten}
+use Rattle.worked.specs.Reason.{reasonGiven}
+use Rattle.worked.proofs.Rows.{overwritten-more}
 use Rattle.shares.proofs.reason.fill_row.Statement.{statement}
 use Rattle.shares.proofs.reason.fill_row.Tie as tie
 

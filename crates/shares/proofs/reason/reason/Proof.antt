@@ -2,7 +2,7 @@
 use mathlib.Core.Path.{_∙_, ap, ap₂}
 use borrow.Author.Needs.{needs}
 use lib.Dec.{eqb}
-use Rattle.shares.specs.Reason.{reasonGiven}
+use Rattle.worked.specs.Reason.{reasonGiven}
 use Rattle.shares.proofs.reason.reason.Statement.{statement}
 use Rattle.shares.proofs.reason.reason.Tie as tie
 

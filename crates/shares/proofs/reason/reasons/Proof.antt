@@ -7,9 +7,9 @@ use borrow.Author.Needs.{needs}
 use denote.Ref.{now}
 use lib.ListN.{length, drop, replicate, getD-replicate}
 use Rattle.laws.specs.Lists.{list, listFrom}
-use Rattle.shares.specs.Saturated.{ports}
-use Rattle.shares.specs.Reason.{reasonAt}
-use Rattle.shares.proofs.Rows.{length-filled, row-filled, rows-filled}
+use Rattle.worked.specs.Saturated.{ports}
+use Rattle.worked.specs.Reason.{reasonAt}
+use Rattle.worked.proofs.Rows.{length-filled, row-filled, rows-filled}
 use Rattle.shares.proofs.reason.reasons.Statement.{statement}
 use Rattle.shares.proofs.reason.reasons.Tie as tie
 

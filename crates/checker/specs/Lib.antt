@@ -1,8 +1,0 @@
--- When a plan is accepted for a request, and why not.
-pub mod PlanWithin
-pub mod Places
-pub mod PlanRows
-pub mod Worked
-pub mod Fault
-pub mod Shown
-pub mod Drawn

@@ -1,4 +1,0 @@
--- What holds of the calls for C.
-pub mod Places
-pub mod PlanLaid
-pub mod Shown

@@ -1,3 +1,0 @@
--- What the calls for C answer.
-pub mod Code
-pub mod Shown

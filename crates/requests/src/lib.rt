@@ -1,0 +1,3 @@
+// The check of a request's numbers.
+pub mod check;
+mod tables;
