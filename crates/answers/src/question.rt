@@ -5,7 +5,7 @@ use export::calls::{
 };
 
 // What is asked, and how long the buffer and the two files are.
-#[derive(Drop)]
+#[derive(Clone, Copy)]
 struct Head {
     asked: u32,
     room: u32,

@@ -1,4 +1,6 @@
 // The checker: judges anybody's plan for a request, as values.
+#![tactic(auto)]
+
 pub mod format;
 pub mod judge;
 pub mod rates;

@@ -1,4 +1,6 @@
 // Files made of blocks: reading and writing them, judging them, and refusing what breaks the rules.
+#![tactic(auto)]
+
 pub mod check;
 pub mod choose;
 mod format;

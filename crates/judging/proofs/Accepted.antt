@@ -7,7 +7,7 @@ use mathlib.Core.Path.{◌≡◌, sym, ◌∙◌, ap, ap₂, subst}
 use native.Mathlib.Nat.{zero-add}
 use native.Mathlib.Omega.{arith}
 use lib.Dec.{leb, ltb}
-use borrow.Author.Tests.{eq-eqb, eqb-true, lt-ltb, le-ltb, ltb-true, ltb-false, le-leb, leb-true, not-false, not_true}
+use borrow.Author.Tests.{eq-eqb, eqb-true, lt-ltb, le-ltb, ltb-true, ltb-false, le-leb, leb-true, not-false, not-true}
 use Rattle.laws.proofs.Search.{le_or_lt, true_or_false, true_not_false, both_true, true_of_both}
 use Rattle.switch.specs.Cells.{input, output, cell_of, input_of, output_of, used_cell, input_used, output_used, input_capacity, output_capacity, demand_of}
 use Rattle.switch.specs.Fairness.{Used, Allocation, Settled, InputBottleneck, OutputBottleneck}
@@ -61,7 +61,7 @@ module _ (r : Request) where
   silent_of_zero f z c h =
       not_above_of_le (not (used_cell r c)) 0 (f c)
       (λ e.
-      let past = past_of_unused r (input_of c) (output_of c) (sym (used_cell_of_ports r c h) ∙ not_true (used_cell r c) e) in
+      let past = past_of_unused r (input_of c) (output_of c) (sym (used_cell_of_ports r c h) ∙ not-true (used_cell r c) e) in
       subst (λ k. f k ≤ 0) (cell_of-ports c h) (omega (arith, z (input_of c) (output_of c) (omega arith) (omega arith) past)))
 
 -- The numbers of a plan are within their limits exactly when rows 7, after the request's own words, and 8 are silent.

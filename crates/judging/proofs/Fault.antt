@@ -6,7 +6,7 @@ use mathlib.Core.Path.{◌≡◌, refl, sym, ◌∙◌, ap, subst}
 use native.Mathlib.Nat.{add-zero}
 use native.Mathlib.Omega.{arith}
 use lib.Dec.{ltb}
-use borrow.Author.Tests.{eq-eqb, ne_eqb, ltb-true, le-leb, not_true}
+use borrow.Author.Tests.{eq-eqb, ne_eqb, ltb-true, le-leb, not-true}
 use Rattle.laws.proofs.Search.{le_or_lt, eq_or_not, both_true, true_of_both, true_not_false}
 use Rattle.switch.specs.Cells.{input, output, cell_of, input_of, output_of, used_cell, input_used, output_used, demand_of}
 use Rattle.switch.specs.Fairness.{Used}
@@ -42,7 +42,7 @@ module _ (r : Request) (p : Plan) where
       → (c : ℕ) → c < 64 → above (not (used_cell r c)) 0 (f c) ≡ true → Q c
   unused_named f Q named c h e =
       let (unused, more) = both_true (not (used_cell r c)) (ltb 0 (f c)) e in
-      let past = past_of_unused r (input_of c) (output_of c) (sym (used_cell_of_ports r c h) ∙ not_true (used_cell r c) unused) in
+      let past = past_of_unused r (input_of c) (output_of c) (sym (used_cell_of_ports r c h) ∙ not-true (used_cell r c) unused) in
       subst (λ x. 0 < f x → Q x) (cell_of-ports c h) (named (input_of c) (output_of c) (omega arith, omega arith, past))
       (ltb-true 0 (f c) more)
 

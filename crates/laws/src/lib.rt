@@ -1,1 +1,2 @@
 // Laws that no subject owns: decisions, searches, lists made by a rule. This crate is mathematics alone: it has no code.
+#![tactic(auto)]

@@ -1,4 +1,6 @@
 // The listing program: a request file on standard input, the text of its plan or of its refusal on standard output.
+#![tactic(auto)]
+
 use listing::list::list;
 use texts::list::Listed;
 

@@ -1,4 +1,6 @@
 // Turns a request into its plan.
+#![tactic(auto)]
+
 mod fill;
 mod happen;
 mod limits;

@@ -12,7 +12,7 @@ use crate::progress::Mode;
 use crate::stage::WAITING;
 
 // A level, `high` over `parts`, and what happens there: a limit's number, or 20 and a flow's cell, or 84 for nothing.
-#[derive(Drop)]
+#[derive(Clone, Copy)]
 pub struct Level {
     pub high: u64,
     pub parts: u64,

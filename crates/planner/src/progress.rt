@@ -2,7 +2,7 @@
 ghost use Rattle.std.specs.Prelude.{◌≡◌};
 
 // Whether there are cards, whether some flow had a minimum at the start, and the largest weight.
-#[derive(Drop)]
+#[derive(Clone, Copy)]
 pub struct Mode {
     pub cards: bool,
     pub held: bool,
@@ -22,7 +22,7 @@ impl Mode {
 }
 
 // The base, and a number that no demand of a rising flow is below.
-#[derive(Drop)]
+#[derive(Clone, Copy)]
 pub struct Progress {
     pub base: u64,
     pub least: u64,

@@ -14,7 +14,7 @@ use crate::stage::{HELD, RISING, WAITING};
 use crate::stop::stop;
 
 // A walk goes over the cells of a limit from the first of them to the end in equal steps.
-#[derive(Drop)]
+#[derive(Clone, Copy)]
 pub struct Area {
     pub first: u64,
     pub end: u64,

@@ -33,7 +33,7 @@ pub fn stop(
 }
 
 // Whether some flow met its demand, and a number that no demand of a flow which goes on rising is below.
-#[derive(Drop)]
+#[derive(Clone, Copy)]
 pub struct Met {
     pub any: bool,
     pub least: u64,

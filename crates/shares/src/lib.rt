@@ -1,4 +1,6 @@
 // What a plan's numbers say of its ports and flows, and the way to its least base.
+#![tactic(auto)]
+
 pub mod arithmetic;
 pub mod count;
 pub mod divisor;

@@ -5,7 +5,7 @@ use mathlib.Core.Path.{◌≡◌, refl, sym, ◌∙◌, subst}
 use mathlib.Core.Bool.{true, not}
 use native.Mathlib.Omega.{arith}
 use lib.Dec.{ltb}
-use borrow.Author.Tests.{ltb-true, ltb-false, not_true}
+use borrow.Author.Tests.{ltb-true, ltb-false, not-true}
 use Rattle.laws.proofs.Search.{le_or_lt, both_true, true_not_false}
 use Rattle.switch.specs.Cells.{input, output, cell_of, input_of, output_of, input_used, output_used, used_cell}
 use Rattle.switch.specs.Cells.{input_capacity, output_capacity, demand_of}
@@ -62,17 +62,17 @@ module _ (r : Request) where
   unused_inputs_named : Named (Fault r) (inputs_not_zero r)
   unused_inputs_named i h e =
       let (unused, above) = both_true (not (input_used r (input i))) (ltb 0 (input_capacity r (input i))) e in
-      unused_input (input i) h (ltb-false i r.m (not_true _ unused)) (ltb-true 0 _ above)
+      unused_input (input i) h (ltb-false i r.m (not-true _ unused)) (ltb-true 0 _ above)
 
   unused_outputs_named : Named (Fault r) (outputs_not_zero r)
   unused_outputs_named i h e =
       let (unused, above) = both_true (not (output_used r (output i))) (ltb 0 (output_capacity r (output i))) e in
-      unused_output (output i) h (ltb-false i r.n (not_true _ unused)) (ltb-true 0 _ above)
+      unused_output (output i) h (ltb-false i r.n (not-true _ unused)) (ltb-true 0 _ above)
 
   unused_cells_named : Named (Fault r) (cells_not_zero r)
   unused_cells_named c h e =
       let (unused, above) = both_true (not (used_cell r c)) (ltb 0 (demand_of r c)) e in
-      let past = past_of_unused r (input_of c) (output_of c) (sym (used_cell_of_ports r c h) ∙ not_true (used_cell r c) unused) in
+      let past = past_of_unused r (input_of c) (output_of c) (sym (used_cell_of_ports r c h) ∙ not-true (used_cell r c) unused) in
       by_ports 7 c h
       (unused_cell (input_of c) (output_of c) (omega arith) (omega arith) past (rw (cell_of-ports c h) (ltb-true 0 _ above)))
 

@@ -6,7 +6,7 @@ use mathlib.Core.Bool.{false, true, not, ◌&&◌}
 use mathlib.Core.List.Memᴰ
 use native.Mathlib.Omega.{arith}
 use lib.Dec.{leb, ltb}
-use borrow.Author.Tests.{lt-ltb, le-ltb, le-leb, ltb-true, ltb-false, leb-true, not_true, not-false}
+use borrow.Author.Tests.{lt-ltb, le-ltb, le-leb, ltb-true, ltb-false, leb-true, not-true, not-false}
 use Rattle.laws.proofs.Search.{le_or_lt, both_true}
 use Rattle.switch.specs.Cells.{input, output, cell_of, input_of, output_of, input_used, output_used, used, used_cell}
 use Rattle.switch.specs.Cells.{input_capacity, output_capacity, demand_of}
@@ -111,7 +111,7 @@ module _ (r : Request) (w : Within r) where
   cells_silent : Silent (cells_not_zero r)
   cells_silent c h =
       not_above_of_le (not (used_cell r c)) 0 (demand_of r c)
-      (λ e. go (sym (used_cell_of_ports r c h) ∙ not_true (used_cell r c) e))
+      (λ e. go (sym (used_cell_of_ports r c h) ∙ not-true (used_cell r c) e))
     where
       go : used r (input_of c) (output_of c) ≡ false → demand_of r c ≤ 0
       go e =
@@ -122,10 +122,10 @@ module _ (r : Request) (w : Within r) where
   zeros_silent =
       silent_joined (inputs_not_zero r) (joined (outputs_not_zero r) (cells_not_zero r))
       (λ i h. not_above_of_le (not (ltb i r.m)) 0 (input_capacity r (input i))
-      (λ e. omega (arith, w.unused_input (input i) (ltb-false i r.m (not_true (ltb i r.m) e)) h)))
+      (λ e. omega (arith, w.unused_input (input i) (ltb-false i r.m (not-true (ltb i r.m) e)) h)))
       (silent_joined (outputs_not_zero r) (cells_not_zero r)
       (λ i h. not_above_of_le (not (ltb i r.n)) 0 (output_capacity r (output i))
-      (λ e. omega (arith, w.unused_output (output i) (ltb-false i r.n (not_true (ltb i r.n) e)) h)))
+      (λ e. omega (arith, w.unused_output (output i) (ltb-false i r.n (not-true (ltb i r.n) e)) h)))
       cells_silent)
 
   pub silent_of_within : AllSilent (request_rows r)

@@ -1,4 +1,6 @@
 // What a switch is: its ports and cells, requests and plans, refusals and verdicts.
+#![tactic(auto)]
+
 pub mod entry;
 pub mod number;
 pub mod plan;

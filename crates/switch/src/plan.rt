@@ -4,7 +4,7 @@ ghost use Rattle.switch.specs.Values.{empty_plan};
 
 use crate::verdict::Verdict;
 
-#[derive(Drop)]
+#[derive(Clone, Copy)]
 pub struct Plan {
     pub base: u64,
     pub numerators: [u64; 64],
@@ -29,7 +29,7 @@ impl Plan {
 }
 
 // What planning gives: a verdict, and the plan, which is the empty plan if the verdict refuses.
-#[derive(Drop)]
+#[derive(Clone, Copy)]
 pub struct Planned {
     pub verdict: Verdict,
     pub plan: Plan,

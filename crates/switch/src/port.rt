@@ -5,10 +5,10 @@ ghost use Rattle.switch.specs.Tables.{used_end};
 
 use crate::number::lesser;
 
-#[derive(Drop)]
+#[derive(Clone, Copy)]
 pub struct Input(pub u32);
 
-#[derive(Drop)]
+#[derive(Clone, Copy)]
 pub struct Output(pub u32);
 
 // The cell of the flow from `u` to `v`.

@@ -5,7 +5,7 @@ ghost use Rattle.switch.specs.Values.{zero_request};
 
 use crate::entry::entry;
 
-#[derive(Drop)]
+#[derive(Clone, Copy)]
 pub struct Request {
     pub m: u32,
     pub n: u32,

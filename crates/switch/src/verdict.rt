@@ -3,7 +3,7 @@ ghost use Rattle.std.specs.Prelude.{◌≡◌};
 ghost use Rattle.switch.specs.Numbering.{number_of};
 ghost use Rattle.switch.specs.Rows.{refusal, or_else};
 
-#[derive(Drop)]
+#[derive(Clone, Copy)]
 pub enum Cause {
     Length,
     Check,
@@ -23,13 +23,13 @@ pub enum Cause {
     Room,
 }
 
-#[derive(Drop)]
+#[derive(Clone, Copy)]
 pub struct Refusal {
     pub cause: Cause,
     pub place: u64,
 }
 
-#[derive(Drop)]
+#[derive(Clone, Copy)]
 pub enum Verdict {
     Accepted,
     Refused(Refusal),

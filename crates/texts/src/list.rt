@@ -2,7 +2,7 @@
 use switch::verdict::Verdict;
 
 // Whether there was room for the text, and how many bytes it takes.
-#[derive(Drop)]
+#[derive(Clone, Copy)]
 pub struct Listed {
     pub verdict: Verdict,
     pub length: u32,

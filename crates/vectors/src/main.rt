@@ -1,4 +1,6 @@
 // Runs the examples of the rules that are there to be run, provokes each refusal, and prints what was answered.
+#![tactic(auto)]
+
 mod changes;
 mod drawn;
 mod dump;

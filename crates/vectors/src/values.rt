@@ -44,7 +44,7 @@ pub const QUIET: u64 = 8 * HIGH;
 
 pub const SET: u64 = QUIET + ALSO;
 
-#[derive(Drop)]
+#[derive(Clone, Copy)]
 pub struct Offer {
     pub request: Request,
     pub plan: Plan,

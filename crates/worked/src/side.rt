@@ -2,7 +2,7 @@
 use switch::verdict::Verdict;
 
 // The sum of each port's numerators, and the largest of them.
-#[derive(Drop)]
+#[derive(Clone, Copy)]
 pub struct Side {
     pub sums: [u64; 8],
     pub mosts: [u64; 8],
@@ -10,7 +10,7 @@ pub struct Side {
 
 // What rows 12 to 15 ask of a side: whether one of its ports carries too much, and from which numerator on each holds a flow
 // back.
-#[derive(Drop)]
+#[derive(Clone, Copy)]
 pub struct Weighed {
     pub over: Verdict,
     pub levels: [u64; 8],
