@@ -1,6 +1,6 @@
 -- Every verdict on a file has a place below 384, the number of words of a plan file, so that it fits beside the refusal's number.
 use Prim.Native.Nat.{ℕ, ◌≤◌}
-use mathlib.Core.List.{List, []}
+use mathlib.Core.List.{List}
 use native.Mathlib.Nat.{lt_of_le_of_lt}
 use native.Mathlib.Omega.{arith}
 use Rattle.switch.specs.Numbering.{number_of}

@@ -7,7 +7,6 @@ use native.Mathlib.Nat.{le_of_mul-le-mul_right, pos_of_ne-zero, add-sub_of_le, l
 use native.Mathlib.Omega.{arith}
 use lib.Dec.{eqb}
 use borrow.Author.Tests.{eqb-true, eqb-false}
-use Rattle.fairness.specs.Total.{on}
 use Rattle.fairness.specs.Problem.{Problem, Sound, across}
 use Rattle.fairness.specs.Fairness.{Fair}
 use Rattle.laws.specs.Lists.{cells}

@@ -19,7 +19,8 @@ use Rattle.switch.proofs.Noticed.{request_among, limits_rising, zeros_rising}
 use Rattle.switch.proofs.Rising.{Rising, rising_joined}
 use Rattle.switch.proofs.Rows.{Each, each_cons, each_here, each_after, each_after_three, Named, named_first, named_second}
 use Rattle.judging.specs.PlanRows.{half_not_zero, base_row, rate_rows}
-use Rattle.judging.proofs.Noticed.{plan_noticed, half_rising, base_rising, range_rising, fair_rising}
+use Rattle.judging.proofs.JudgeFirst.{half_rising}
+use Rattle.judging.proofs.Noticed.{plan_noticed, base_rising, range_rising, fair_rising}
 use Rattle.formats.specs.FileRows.{spare_row}
 use Rattle.formats.specs.PlanFault.{PlanFileFault, size, unsealed, kind, of_pair, request_spare, plan_spare, base_differs}
 use Rattle.formats.specs.PlanFile.{base_in, plan_in, plan_file_not_zero_row, base_differs_row, plan_file_rows, check_verdict}

@@ -1,7 +1,6 @@
 -- A plan is accepted exactly when its request and its numbers are within their limits, its rates are fair and its reasons right.
 use Prim.Native.Nat.{ℕ, ◌-◌, ◌*◌, ◌≤◌, ◌<◌}
 use mathlib.Core.Bool.{Bool, true, false, cond, not, ◌&&◌, ◌||◌, and-false, or-true}
-use mathlib.Core.List.{[]}
 use mathlib.Core.Logic.{◌⊎◌, ◌↔◌, inl, inr}
 use mathlib.Core.Path.{◌≡◌, sym, ◌∙◌, ap, ap₂, subst}
 use native.Mathlib.Nat.{zero-add}

@@ -3,5 +3,6 @@ pub mod Flows
 pub mod Accepted
 pub mod Fault
 pub mod Noticed
+pub mod JudgeFirst
 pub mod Drawn
 pub mod Shown

@@ -11,7 +11,6 @@ use borrow.Author.Tests.{ne_eqb, lt-ltb}
 use Rattle.laws.proofs.Search.{le_or_lt, true_of_both}
 use Rattle.switch.specs.Cells.{cell_of, used_cell}
 use Rattle.switch.specs.Fairness.{Used}
-use Rattle.switch.specs.Given.{Gives, NoLater}
 use Rattle.switch.specs.Numbering.{number_of}
 use Rattle.switch.specs.Rates.{flow, rates_of}
 use Rattle.switch.specs.Reason.{input_holds, output_holds}
@@ -23,12 +22,11 @@ use Rattle.switch.specs.declared.port.Output.{Output}
 use Rattle.switch.specs.declared.request.Request.{Request}
 use Rattle.switch.specs.declared.verdict.Cause.{Cause}
 use Rattle.switch.specs.declared.verdict.Cause.TheVariants.{ReasonRange, AboveDemand, NoBottleneck, WrongReason}
-use Rattle.switch.specs.declared.verdict.Verdict.TheVariants.{Accepted}
 use Rattle.switch.proofs.Cells.{cell_below, input_of_cell, output_of_cell, used_of_below, used_cell_of_cell}
-use Rattle.switch.proofs.First.{ascending, Onward, Noticed, first_of_noticed, none_of_noticed}
-use Rattle.switch.proofs.Noticed.{outside_of, not_zero_of, request_noticed, request_among, limits_rising, zeros_rising}
+use Rattle.switch.proofs.First.{Onward, Noticed}
+use Rattle.switch.proofs.Noticed.{outside_of, not_zero_of, request_noticed, request_among}
 use Rattle.switch.proofs.Reason.{bottleneck_of_holds, output_bottleneck_of_holds}
-use Rattle.switch.proofs.Rising.{Rising, rising_steps, rising_joined}
+use Rattle.switch.proofs.Rising.{Rising, rising_steps}
 use Rattle.switch.proofs.Rows.{Each, each_nil, each_cons, each_here, each_after, each_after_three, Named, named_first, named_second}
 use Rattle.judging.specs.Fault.{Unused, PlanFault, of_request, low_rate, high_rate, unused_reason, base, reason_range, above_demand_fault}
 use Rattle.judging.specs.Fault.{input_over_fault, output_over_fault, no_bottleneck, wrong_reason_fault}
@@ -36,7 +34,7 @@ use Rattle.judging.specs.Places.{low_of, high_word, reason_word}
 use Rattle.judging.specs.PlanWithin.{said_reason}
 use Rattle.judging.specs.PlanRows.{numerator_of, cell_in, first_word, unused_rates, unused_reasons, half_not_zero, base_row, flow_row}
 use Rattle.judging.specs.PlanRows.{no_reason, reason_range_row, above_demand, above_demand_row, input_over_row, output_over_row, free, no_bottleneck_row}
-use Rattle.judging.specs.PlanRows.{wrong_reason, wrong_reason_row, fair_rows, rate_rows, judge_rows, judged}
+use Rattle.judging.specs.PlanRows.{wrong_reason, wrong_reason_row, fair_rows, rate_rows, judge_rows}
 use Rattle.judging.proofs.Accepted.{by_half, free_of}
 
 false_of_not : (b : Bool) → (b ≡ true → ⊥) → b ≡ false
@@ -127,7 +125,7 @@ module _ (r : Request) (p : Plan) (Q : ℕ → ℕ → Type 0) (on : Onward Q) (
 module _ (r : Request) (p : Plan) where
   -- The words of a half's numerators rise, and after them those of its reasons.
   module _ {low high : ℕ} (half : ℕ) (l : low ≤ 128 * (1 + half) + 3) (h : 128 * (1 + half) + 75 ≤ high) where
-    rates_rising : Rising low (128 * (1 + half) + 67) (unused_rates r p half)
+    pub rates_rising : Rising low (128 * (1 + half) + 67) (unused_rates r p half)
     rates_rising =
         record {
           bounds = omega arith;
@@ -144,12 +142,9 @@ module _ (r : Request) (p : Plan) where
         up i j before below (inl k) = let e : i ≡ j = omega arith in rw e (omega arith)
         up i j before below (inr k) = let one = high_or_low i in omega arith
 
-    reasons_rising : Rising (128 * (1 + half) + 67) high (unused_reasons r p half)
+    pub reasons_rising : Rising (128 * (1 + half) + 67) high (unused_reasons r p half)
     reasons_rising =
         record { bounds = omega arith; places = λ i j before below. (omega arith, omega arith, omega arith) }
-
-    pub half_rising : Rising low high (half_not_zero r p half)
-    half_rising = rising_joined (unused_rates r p half) (unused_reasons r p half) (128 * (1 + half) + 67) rates_rising reasons_rising
 
   -- Places that are cells, inputs or outputs are the numbers of these.
   by_number : (row : Row) → ((i : ℕ) → row.place i ≡ i) → row.size ≤ 64 → Rising 0 383 row
@@ -169,16 +164,7 @@ module _ (r : Request) (p : Plan) where
       (each_cons _ (by_number (no_bottleneck_row r p) (λ i. refl) (omega arith))
       (each_cons _ (by_number (wrong_reason_row r p) (λ i. refl) (omega arith)) (each_nil _)))))
 
-  judge_rising : Each (Rising 0 383) (judge_rows r p)
-  judge_rising =
-      limits_rising r (omega arith)
-      (each_cons _
-      (rising_joined (not_zero_row r) (joined (half_not_zero r p 0) (half_not_zero r p 1)) 83 (zeros_rising r (omega arith))
-      (rising_joined (half_not_zero r p 0) (half_not_zero r p 1) 203 (half_rising 0 (omega arith) (omega arith))
-      (half_rising 1 (omega arith) (omega arith))))
-      (each_cons _ base_rising (each_cons _ range_rising fair_rising)))
-
-  judge_noticed : Noticed (judge_rows r p) (PlanFault r p)
+  pub judge_noticed : Noticed (judge_rows r p) (PlanFault r p)
   judge_noticed Q on all k q =
       let first = half_not_zero r p 0 in
       let second = half_not_zero r p 1 in
@@ -188,10 +174,3 @@ module _ (r : Request) (p : Plan) where
       plan_noticed r p Q on (request_among r (Named Q) all (named_first (not_zero_row r) (joined first second) Q zeros))
       (named_first first second Q plan) (named_second first second Q refl plan)
       (each_here _ (each_after _ after)) (each_after _ (each_after _ after))
-
-  pub judge_first : (k q : ℕ) → Gives (judged r p) k q → (k' q' : ℕ) → PlanFault r p k' q' → NoLater k q k' q'
-  unfolding ascending
-  judge_first = first_of_noticed (judge_rows r p) (PlanFault r p) judge_noticed refl judge_rising
-
-  pub judge_none : judged r p ≡ Accepted → (k q : ℕ) → PlanFault r p k q → ⊥
-  judge_none = none_of_noticed (judge_rows r p) (PlanFault r p) judge_noticed

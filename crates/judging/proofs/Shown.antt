@@ -22,7 +22,7 @@ use Rattle.judging.specs.PlanWithin.{PlanWithin, said_reason}
 use Rattle.judging.specs.Shown.{Judging}
 use Rattle.judging.proofs.Accepted.{judged_exactly}
 use Rattle.judging.proofs.Fault.{judge_fault}
-use Rattle.judging.proofs.Noticed.{judge_first, judge_none}
+use Rattle.judging.proofs.JudgeFirst.{judge_first, judge_none}
 
 plan_of_within : (r : Request) → Within r → PlanWithin r (plan_of r)
 plan_of_within r w =

@@ -9,7 +9,7 @@ use Rattle.switch.specs.declared.plan.Plan.{Plan}
 use Rattle.switch.specs.declared.verdict.Verdict.{Verdict}
 use Rattle.switch.specs.declared.verdict.Verdict.TheVariants.{Accepted}
 use Rattle.switch.proofs.Fault.{request_fault}
-use Rattle.switch.proofs.Noticed.{request_first, request_none}
+use Rattle.switch.proofs.RequestFirst.{request_first, request_none}
 use Rattle.switch.proofs.Numbering.{request_rows_in_order}
 use Rattle.switch.proofs.Planned.{base_of_plan_of}
 use Rattle.switch.proofs.Rows.{given_exactly}

@@ -10,6 +10,7 @@ pub mod Numbering
 pub mod Within
 pub mod Fault
 pub mod Noticed
+pub mod RequestFirst
 pub mod Grid
 pub mod Sharing
 pub mod Small

@@ -11,16 +11,14 @@ use Rattle.laws.proofs.Search.{true_of_both}
 use Rattle.switch.specs.Cells.{cell_of, used_cell}
 use Rattle.switch.specs.Fault.{Fault, inputs, outputs, input_above_fault, output_above_fault, demand_above_fault}
 use Rattle.switch.specs.Fault.{unused_input, unused_output, unused_cell}
-use Rattle.switch.specs.Given.{Gives, NoLater}
 use Rattle.switch.specs.RequestRows.{above, ports_row, inputs_above, outputs_above, capacity_row, demand_row}
-use Rattle.switch.specs.RequestRows.{inputs_not_zero, outputs_not_zero, cells_not_zero, not_zero_row, request_rows, request_verdict}
+use Rattle.switch.specs.RequestRows.{inputs_not_zero, outputs_not_zero, cells_not_zero, not_zero_row, request_rows}
 use Rattle.switch.specs.Rows.{Row, joined}
 use Rattle.switch.specs.declared.port.Input.{Input}
 use Rattle.switch.specs.declared.port.Output.{Output}
 use Rattle.switch.specs.declared.request.Request.{Request}
-use Rattle.switch.specs.declared.verdict.Verdict.TheVariants.{Accepted}
 use Rattle.switch.proofs.Cells.{cell_below, used_of_below, unused_of_past, used_cell_of_cell}
-use Rattle.switch.proofs.First.{ascending, Noticed, first_of_noticed, none_of_noticed}
+use Rattle.switch.proofs.First.{Noticed}
 use Rattle.switch.proofs.Rising.{Rising, rising_steps, rising_joined}
 use Rattle.switch.proofs.Rows.{Each, each_nil, each_cons, each_here, each_after, each_after_three, Named, named_first, named_second}
 use Rattle.switch.proofs.Sharing.{Past}
@@ -101,12 +99,3 @@ module _ (r : Request) where
         (rising_joined (outputs_not_zero r) (cells_not_zero r) 19
         (rising_steps (outputs_not_zero r) 11 1 (λ i. omega arith) (omega arith) (omega arith))
         (rising_steps (cells_not_zero r) 19 1 (λ i. omega arith) (omega arith) (omega arith)))
-
-  pub request_first : (k p : ℕ) → Gives (request_verdict r) k p → (k' p' : ℕ) → Fault r k' p' → NoLater k p k' p'
-  unfolding ascending
-  request_first =
-      first_of_noticed (request_rows r) (Fault r) request_noticed refl
-      (limits_rising (omega arith) (each_cons _ (zeros_rising {high = 83} (omega arith)) (each_nil _)))
-
-  pub request_none : request_verdict r ≡ Accepted → (k p : ℕ) → Fault r k p → ⊥
-  request_none = none_of_noticed (request_rows r) (Fault r) request_noticed

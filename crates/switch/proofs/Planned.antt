@@ -21,7 +21,7 @@ use Rattle.fairness.proofs.Reduced.{reduced_same, reduced_least, length-filled}
 use Rattle.fairness.proofs.Unique.{fair_of_same}
 use Rattle.switch.specs.Within.{Within}
 use Rattle.switch.specs.Rates.{Rates, flow, rates_of}
-use Rattle.switch.specs.Fairness.{Fair, LeastBase, SameRates, Blank}
+use Rattle.switch.specs.Fairness.{LeastBase, SameRates, Blank}
 use Rattle.switch.specs.Reason.{reason_of}
 use Rattle.switch.specs.Planned.{Right, problem_of, plan_from, plan_of_state, plan_of}
 use Rattle.switch.specs.declared.plan.Plan.{Plan}

@@ -7,7 +7,7 @@ use native.Mathlib.Nat.{mul-le-mul_right, le_of_mul-le-mul_right, lt_of_mul-lt-m
 use native.Mathlib.Omega.{arith}
 use borrow.Author.Tests.{eq-eqb, eqb-true}
 use Rattle.fairness.proofs.Unique.{fair_of_same}
-use Rattle.switch.specs.Cells.{input, output, cell_of, demand_of}
+use Rattle.switch.specs.Cells.{output, cell_of, demand_of}
 use Rattle.switch.specs.Fairness.{Used, Fair, InputBottleneck, SameRates}
 use Rattle.switch.specs.Planned.{problem_of, plan_of}
 use Rattle.switch.specs.Rates.{Rates, flow, rates_of, sum_to}

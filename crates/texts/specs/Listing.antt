@@ -1,5 +1,5 @@
 -- The text of a plan, from document 01's section 'The listing program', and what listing it into a buffer answers and leaves.
-use Rattle.std.specs.Prelude.{ℕ, zero, suc, ◌+◌, ◌*◌, List, [], ◌∷◌, ◌++◌, length, drop}
+use Rattle.std.specs.Prelude.{ℕ, zero, suc, ◌*◌, List, [], ◌∷◌, ◌++◌, length, drop}
 use Rattle.switch.specs.Cells.{input, output, cell_of, demand_of}
 use Rattle.switch.specs.Numbering.{number_of}
 use Rattle.switch.specs.Planned.{plan_of}

@@ -32,7 +32,7 @@ use Rattle.worked.specs.Saturated.{capped, largest}
 use Rattle.worked.proofs.Bottlenecks.{product_below, product_exact, input_over_exact, output_over_exact, input_full_exact, output_full_exact, input_most_exact, output_most_exact}
 use Rattle.judging.specs.PlanWithin.{PlanWithin, said_reason}
 use Rattle.judging.specs.PlanRows.{reason_range_row, above_demand_row, input_over, input_over_row, output_over, output_over_row, free, no_bottleneck_row, wrong_reason_row, rate_rows}
-use Rattle.worked.specs.Worked.{scaled, input_side, output_side, level_of, levels, range_worked, more_row, below, free_row, reason_by, reasons_row}
+use Rattle.worked.specs.Worked.{scaled, input_side, output_side, level_of, range_worked, more_row, below, free_row, reason_by, reasons_row}
 use Rattle.worked.specs.Worked.{inputs_weighed, outputs_weighed, rates_worked}
 use Rattle.judging.proofs.Flows.{as_flow_row}
 
