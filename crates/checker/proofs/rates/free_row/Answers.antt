@@ -1,16 +1,11 @@
--- `free_row` meets its contract: the cell that was found is the row's first offender.
-use Prim.Native.Nat.{ℕ, ◌≤◌, ◌<◌}
-use mathlib.Core.Path.{◌≡◌, sym, ◌∙◌, ap}
-use mathlib.Core.Logic.{◌⊎◌, inl, inr}
-use native.Mathlib.Omega.{arith}
-use borrow.Author.Rules.{rules}
+-- The cell that was found is the row's first offender.
+use Rattle.std.proofs.Common.{ℕ, ◌≡◌, ◌≤◌, ◌<◌, sym, ◌∙◌, ap, arith, ◌⊎◌, inl, inr}
 use Rattle.switch.specs.Given.{Silent, First}
 use Rattle.switch.specs.Rows.{Row, first_of, refusal, row_verdict}
 use Rattle.switch.specs.declared.verdict.Verdict.TheVariants.{Accepted}
 use Rattle.switch.proofs.Search.{at_of_first, nothing_of_silent, silent_or_first}
 use Rattle.worked.specs.Worked.{cell_found}
-use Rattle.checker.proofs.rates.free_row.Statement.{statement}
-use Rattle.checker.proofs.rates.free_row.Tie as tie
+use Rattle.checker.proofs.rates.free_row.Goals as goal
 
 module _ (row : Row) {c : ℕ} (found : c ≡ cell_found (first_of row)) where
   refuses : c < 64 → row_verdict row ≡ refusal row.cause (row.place c)
@@ -29,11 +24,8 @@ module _ (row : Row) {c : ℕ} (found : c ≡ cell_found (first_of row)) where
       go (inl s) = rw (nothing_of_silent row s)
       go (inr (i, f)) = absurd (omega (arith, found ∙ ap cell_found (at_of_first row f), f.below))
 
-returns : tie.Need-returns
-returns c = c.refused.ensures ∙ sym (refuses _ c.before.before.free-cell.ensures (omega arith))
+pub returns-then-c-lt64 : goal.returns-then-c-lt64
+returns-then-c-lt64 c = c.refused.ensures ∙ sym (refuses _ c.free_cell-c.ensures (omega arith))
 
-returns-2 : tie.Need-returns-2
-returns-2 c = sym (accepts _ c.before.free-cell.ensures (omega arith) (omega arith))
-
-pub free_row_spec : {M : Type 1} → statement M
-free_row_spec = tie.close (tie.spec (λ c κs. search rules) (λ c κs. search rules) returns returns-2)
+pub returns : goal.returns
+returns c = sym (accepts _ c.free_cell-c.ensures (omega arith) (omega arith))
