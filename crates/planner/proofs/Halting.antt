@@ -27,16 +27,11 @@ module _ (cards : Bool) (limit high : ℕ) (weights stages left parts : List ℕ
       ((cell < end_of limit) × OnLine limit cell × SweptTo cell stages' left' parts')
       ⊎ ((end_of limit ≤ cell) × SweptTo 64 stages' left' parts')
 
-  -- Before the end the walk is at a cell of the limit, and from there on all cells have been passed.
+  -- Before the end the walk is at a cell of the limit.
   pub walk_here : {cell : ℕ} {stages' left' parts' : List ℕ} → cell < end_of limit → Walked cell stages' left' parts'
       → OnLine limit cell × SweptTo cell stages' left' parts'
   walk_here h (inl (l, on, swept)) = (on, swept)
   walk_here h (inr (l, swept)) = absurd (omega arith)
-
-  pub walk_ends : {cell : ℕ} {stages' left' parts' : List ℕ} → end_of limit ≤ cell → Walked cell stages' left' parts'
-      → SweptTo 64 stages' left' parts'
-  walk_ends h (inl (l, on, swept)) = absurd (omega arith)
-  walk_ends h (inr (l, swept)) = swept
 
   module _ (walk : Walk limit) where
     untouched : (c : ℕ) → through limit c ≡ false

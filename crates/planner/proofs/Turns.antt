@@ -244,6 +244,7 @@ module _ {cards : Bool} {capacities demands minima weights : List ℕ} {heaviest
         let same = stages_met ∙ state_met_none cards capacities demands minima weights b stages levels (next_of e) (sym some_same ∙ f) now.long.0 in
         (engaged_after (rw same now.between), same)
 
+    -- The turn goes on from there, and still no flow meets its demand.
     pub unmet_on : some 64 (met_at b e.high e.parts demands weights stages) ≡ false
         → Turn cards capacities demands minima weights heaviest held (after least') stages' levels left' parts' e
         × (some 64 (meets P (state_of P b stages' levels) (next_of e)) ≡ false) × (stages' ≡ stages)

@@ -1,5 +1,5 @@
 -- `turns` meets its contract: every turn is a round of the filling.
-use Rattle.std.proofs.Common.{◌≡◌, ◌<◌, ℕ, List, [], sym, ◌∙◌, subst, arith}
+use Rattle.std.proofs.Common.{◌≡◌, ◌<◌, ℕ, List, sym, ◌∙◌, subst, arith}
 use Rattle.fairness.specs.Problem.{Problem}
 use Rattle.fairness.specs.Filling.{work}
 use Rattle.planner.specs.Sizes.{most_asked, most_parts}

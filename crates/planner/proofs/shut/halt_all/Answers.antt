@@ -1,11 +1,11 @@
 -- `halt_all` meets its contract: the walk goes over the cells of the limit.
-use Rattle.std.proofs.Common.{◌≡◌, ◌<◌, ℕ, ap, arith}
+use Rattle.std.proofs.Common.{◌≡◌, ◌<◌, ap, arith}
 use Rattle.laws.specs.Lists.{cells}
 use Rattle.planner.specs.Areas.{end_of}
 use Rattle.planner.proofs.Passing.{few_limits}
 use Rattle.planner.proofs.Areas.{OnLine, Walk, walk_of}
 use Rattle.planner.proofs.Walks.{covers_next}
-use Rattle.planner.proofs.Halting.{SweptTo, walk_here, walk_ends, walk_starts, walk_goes_on}
+use Rattle.planner.proofs.Halting.{SweptTo, walk_here, walk_starts, walk_goes_on}
 use Rattle.planner.proofs.shut.halt_all.Goals as goal
 use Rattle.planner.proofs.shut.halt_all.Goals.{In-loop-cell}
 

@@ -1,5 +1,4 @@
-use Rattle.std.proofs.Common.{◌≡◌, ◌-◌}
-use Rattle.planner.specs.Areas.{area_of}
+use Rattle.std.proofs.Common.{◌-◌}
 use Rattle.planner.proofs.Halting.{Walked}
 use Rattle.planner.proofs.shut.halt_all.Given as goal
 

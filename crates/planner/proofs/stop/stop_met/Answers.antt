@@ -1,6 +1,5 @@
 -- `stop_met` meets its contract: the walk visits every cell.
-use Rattle.std.proofs.Common.{◌≡◌, ◌<◌, ◌||◌, sym, ap, ◌∙◌, arith}
-use Rattle.laws.specs.Lists.{cells}
+use Rattle.std.proofs.Common.{◌<◌, ◌||◌, sym, ap, ◌∙◌, arith}
 use Rattle.fairness.specs.Filling.{some}
 use Rattle.fairness.proofs.Some.{some_next}
 use Rattle.planner.specs.Engine.{met_at}

@@ -13,5 +13,5 @@ invariant-loop-c l =
       swept : Swept l.cards l.c (met_stage l.base l.level l.demands l.weights l.initial.stages)
           (met_rate l.base l.level l.demands l.weights l.initial.stages)
           (met_weight l.base l.level l.demands l.weights l.initial.stages) l.initial.stages l.stages l.initial.left l.left
-          l.initial.parts l.parts
+          l.initial.parts l.parts;
     }
