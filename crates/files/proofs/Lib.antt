@@ -1,2 +1,3 @@
--- What the check of a plan file rests on beside its rows.
+-- What the check of a plan file and the writers rest on beside their rows.
 pub mod Checked
+pub mod Saved

@@ -10,6 +10,7 @@ use blocks::word::put;
 use switch::entry::entry;
 
 // Word `i` of the request's block.
+#[tactic(auto, unfolding(formats::specs::RequestFile::request_word))]
 fn request_word(m: u32, n: u32, inputs: &[u32], outputs: &[u32], demands: &[u32], i: u64) -> u32
     ensures { result ≡ request_word (request_of m n inputs.now outputs.now demands.now) i }
 {
@@ -81,6 +82,7 @@ fn wide(byte: u8) -> u32
 }
 
 // Word `i` of the block of a half of the plan.
+#[tactic(auto, unfolding(formats::specs::PlanFile::plan_word))]
 fn plan_word(base: u64, numerators: &[u64], reasons: &[u8], half: u32, i: u64) -> u32
     requires { (half < 2) × (length numerators.now ≡ 64) × (length reasons.now ≡ 64) }
     ensures { result ≡ plan_word (plan_with base numerators.now reasons.now) half i }

@@ -17,7 +17,7 @@ use Rattle.planner.proofs.Walks.{swept_none, swept_next, swept_past}
 
 module _ (cards : Bool) (limit high : ℕ) (weights stages left parts : List ℕ) where
   -- The walk has come to a cell of the limit, or to its end.
-  abbrev SweptTo : ℕ → List ℕ → List ℕ → List ℕ → Type 0
+  abbrev pub SweptTo : ℕ → List ℕ → List ℕ → List ℕ → Type 0
   SweptTo i stages' left' parts' =
       Swept cards i (halt_stage limit stages) (halt_rate limit high weights stages) (halt_weight limit weights stages)
       stages stages' left left' parts parts'
@@ -26,6 +26,12 @@ module _ (cards : Bool) (limit high : ℕ) (weights stages left parts : List ℕ
   Walked cell stages' left' parts' =
       ((cell < end_of limit) × OnLine limit cell × SweptTo cell stages' left' parts')
       ⊎ ((end_of limit ≤ cell) × SweptTo 64 stages' left' parts')
+
+  -- Before the end the walk is at a cell of the limit.
+  pub walk_here : {cell : ℕ} {stages' left' parts' : List ℕ} → cell < end_of limit → Walked cell stages' left' parts'
+      → OnLine limit cell × SweptTo cell stages' left' parts'
+  walk_here h (inl (l, on, swept)) = (on, swept)
+  walk_here h (inr (l, swept)) = absurd (omega arith)
 
   module _ (walk : Walk limit) where
     untouched : (c : ℕ) → through limit c ≡ false

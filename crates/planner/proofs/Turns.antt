@@ -24,7 +24,7 @@ use Rattle.planner.specs.Sizes.{most_asked}
 use Rattle.planner.specs.Limits.{limits_of, through, problem}
 use Rattle.planner.specs.Tables.{Roomy, RoomyBy, Taken, Swept, Holds}
 use Rattle.planner.specs.Engine.{state_of, met_at, met_rate, met_weight, met_stage, halt_rate, halt_weight, halted_stage}
-use Rattle.planner.specs.Engine.{Engaged, Kept, Light, Modest, Shut, Freed, next_of, event_of, next_event, rising_at, waiting_at}
+use Rattle.planner.specs.Engine.{Engaged, Kept, Light, Modest, Shut, Freed, Happened, next_of, event_of, next_event, rising_at, waiting_at}
 use Rattle.planner.specs.declared.lowest.Level.{Level}
 use Rattle.planner.specs.declared.progress.Progress.{Progress}
 use Rattle.planner.proofs.Walks.{marked_all}
@@ -244,6 +244,23 @@ module _ {cards : Bool} {capacities demands minima weights : List ℕ} {heaviest
         let same = stages_met ∙ state_met_none cards capacities demands minima weights b stages levels (next_of e) (sym some_same ∙ f) now.long.0 in
         (engaged_after (rw same now.between), same)
 
+    -- The turn goes on from there, and still no flow meets its demand.
+    pub unmet_on : some 64 (met_at b e.high e.parts demands weights stages) ≡ false
+        → Turn cards capacities demands minima weights heaviest held (after least') stages' levels left' parts' e
+        × (some 64 (meets P (state_of P b stages' levels) (next_of e)) ≡ false) × (stages' ≡ stages)
+    unmet_on f =
+        let still = (unmet_turn f).1 in (
+          record {
+            modest = modest;
+            now = (unmet_turn f).0;
+            is = subst (λ (st : List ℕ). next_of e ≡ next P (state_of P b st levels)) (sym still) is;
+            pos = pos;
+          },
+          subst (λ (st : List ℕ). some 64 (meets P (state_of P b st levels) (next_of e)) ≡ false) (sym still)
+              (sym some_same ∙ f),
+          still,
+        )
+
   -- What happens at the level, if no flow meets its demand there.
   module _ (none : some 64 (meets P s (next_of e)) ≡ false) where
     abbrev Further : State → Type 0
@@ -433,3 +450,25 @@ module _ {cards : Bool} {capacities demands minima weights : List ℕ} {heaviest
           },
           rw state_is_free free_further.1,
         )
+
+    -- Either has happened.
+    module _ (stages' levels' left' parts' : List ℕ) where
+      abbrev Onward : Progress → List ℕ → Type 0
+      Onward x l =
+          Engaged cards capacities demands minima weights held x stages' l left' parts'
+          × (work P (state_of P x.base stages' l) < work P s)
+
+      pub happened_turn : (new : Progress)
+          → Happened cards at e minima weights stages stages' levels levels' left left' parts parts' new → Onward new levels'
+      happened_turn new done = go (le_or_lt 20 e.at)
+        where
+          go : (20 ≤ e.at) ⊎ (e.at < 20) → Onward new levels'
+          go (inr h) =
+              let d = done.fills h in
+              let same : new ≡ record { base = _; least = _ } = λ i. record { base = d.0 i; least = d.1 i } in
+              subst (λ (x : Progress). Onward x levels') (sym same) (shut_turn h _ _ _ _ d.2)
+          go (inl h) =
+              let d = done.reaches h in
+              let same : new ≡ record { base = _; least = _ } = λ i. record { base = d.0 i; least = d.1 i } in
+              subst (λ (x : Progress). Onward x levels') (sym same)
+              (subst (λ (l : List ℕ). Onward (after 0) l) (sym d.2) (free_turn h _ _ _ d.3))

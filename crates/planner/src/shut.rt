@@ -21,6 +21,7 @@ pub struct Area {
     pub step: u64,
 }
 
+#[tactic(auto, unfolding(crate::specs::Areas::first_of, crate::specs::Areas::end_of, crate::specs::Areas::step_of))]
 fn area_of(limit: u64) -> Area
     requires { limit < 20 }
     ensures { result ≡ area_of limit }

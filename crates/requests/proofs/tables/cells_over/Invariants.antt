@@ -1,0 +1,8 @@
+-- The loop searches the row's candidates input by input.
+use Rattle.std.proofs.Common.{◌*◌}
+use Rattle.switch.specs.Tables.{cells_over}
+use Rattle.switch.proofs.Search.{Passed}
+use Rattle.requests.proofs.tables.cells_over.Given as goal
+
+abbrev pub invariant-loop-u : goal.invariant-loop-u
+invariant-loop-u l = Passed (cells_over l.cause l.from l.used l.m l.n l.most l.table) (8 * l.u)
