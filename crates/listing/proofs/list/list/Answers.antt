@@ -1,9 +1,8 @@
 -- `list` meets its contract: the text is copied where there is room for it, and otherwise nothing is.
-use Rattle.std.proofs.Common.{◌≡◌, ℕ, ◌+◌, ◌<◌, ◌≤◌, List, length, take, sym, ◌∙◌, ap, arith}
+use Rattle.std.proofs.Common.{◌≡◌, ℕ, ◌≤◌, List, length, take, sym, ◌∙◌, ap, arith}
 use Rattle.switch.specs.declared.verdict.Verdict.TheVariants.{Accepted}
 use Rattle.texts.specs.Appended.{Appended}
 use Rattle.texts.specs.Listing.{listing_of}
-use Rattle.texts.specs.declared.list.Listed.{Listed}
 use Rattle.texts.proofs.Fits.{text_fits}
 use Rattle.texts.proofs.Pieces.{appended_as, length_kept, text_end, text_in_front, text_taken}
 use Rattle.texts.proofs.Room.{listed_without_room, listed_with_room}
