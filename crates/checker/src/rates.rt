@@ -17,7 +17,8 @@ fn range_row(reasons: &[u8]) -> Verdict
     ensures { result ≡ row_verdict (range_worked reasons.now) }
 {
     for c in 0..64 {
-        if 2 < reasons[c as usize] {
+        let beyond = 2 < reasons[c as usize];
+        if beyond {
             return refused(Cause::ReasonRange, c);
         }
     }
@@ -73,7 +74,8 @@ fn free_row(
     ensures { result ≡ row_verdict (free_row m n asked.now numerators.now entering.now leaving.now) }
 {
     let c = free_cell(m, n, asked, numerators, entering, leaving);
-    if c < 64 {
+    let found = c < 64;
+    if found {
         return refused(Cause::NoBottleneck, c);
     }
     Verdict::Accepted

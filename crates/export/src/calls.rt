@@ -13,6 +13,7 @@ use listing::list::list;
 use switch::verdict::Verdict;
 
 // The verdict on a request file.
+#[unsafe(no_mangle)]
 pub extern "C" fn rate_plan_read(request: &[u8]) -> u64
     ensures { result ≡ code_of (read_verdict request.now) }
 {
@@ -22,6 +23,7 @@ pub extern "C" fn rate_plan_read(request: &[u8]) -> u64
 }
 
 // Reads a request file, works its plan out and writes the plan file.
+#[unsafe(no_mangle)]
 pub extern "C" fn rate_plan_write(request: &[u8], plan: &mut [u8]) -> u64
     ensures value { result ≡ code_of (plan_verdict request.now plan.old) }
     ensures plan_after { plan.new ≡ plan_laid request.now plan.old }
@@ -35,6 +37,7 @@ pub extern "C" fn rate_plan_write(request: &[u8], plan: &mut [u8]) -> u64
 }
 
 // The verdict on a plan file.
+#[unsafe(no_mangle)]
 pub extern "C" fn rate_plan_check(plan: &[u8]) -> u64
     ensures { result ≡ code_of (check_verdict plan.now) }
 {
@@ -43,6 +46,7 @@ pub extern "C" fn rate_plan_check(plan: &[u8]) -> u64
 
 // Which of the two files is to be loaded: 1 for the proposed one, 2 for the running one, 0 for neither. A pointer into one of
 // them would say no more, since the plan is bytes 512 to 1,535 of either.
+#[unsafe(no_mangle)]
 pub extern "C" fn rate_plan_choose(proposed: &[u8], running: &[u8]) -> u64
     ensures { result ≡ choice_of proposed.now running.now }
 {
@@ -58,6 +62,7 @@ pub extern "C" fn rate_plan_choose(proposed: &[u8], running: &[u8]) -> u64
 }
 
 // Lists the plan of a request file, or the refusal that reading it gives: how many bytes were written.
+#[unsafe(no_mangle)]
 pub extern "C" fn rate_plan_list(request: &[u8], text: &mut [u8]) -> u64
     ensures value { result ≡ (listed request.now text.old).length }
     ensures text_after { text.new ≡ listed_in request.now text.old }

@@ -29,15 +29,16 @@ fn turns(
     ensures { Finished mode demands.now minima.now weights.now stages.old stages.new levels.old levels.new left.old parts.old result }
 {
     let mut at = Progress { base: 1, least: 0 };
-    loop {
+    'turns: loop {
         let level = next_level(mode, at.base, minima, weights, stages, left, parts);
-        if level.parts == 0 {
+        let ended = level.parts == 0;
+        if ended {
             return at.base;
         }
         let met = stop_some(mode, at, level, demands, weights, stages, left, parts);
         at.least = met.least;
         if met.any {
-            continue;
+            continue 'turns;
         }
         at = happen(
             mode, at, level, minima, weights, stages, levels, left, parts,

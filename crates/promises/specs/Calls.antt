@@ -147,7 +147,7 @@ pub record FilesCalls : Type 0 where
   pub check : Settles FileCheck.Asked FileCheck.Post (λ κ z e. z) (λ κ (file, _). check_verdict file.now)
   pub choose : Settles Choose.Asked Choose.Post (λ κ z e. z.now)
       (λ κ (proposed, (running, _)). chosen proposed.now running.now)
-  pub choose_place : Settles Choose.Asked Choose.Post (λ κ z e. z.ptr)
+  pub choose_place : Settles Choose.Asked Choose.Post (λ κ z e. z.ref_ptr)
       (λ κ (proposed, (running, _)). chosen_at proposed.now running.now proposed.ref_ptr running.ref_ptr)
 
 pub record ListingCalls : Type 0 where

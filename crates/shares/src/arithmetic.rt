@@ -20,7 +20,8 @@ pub fn times(a: u32, b: u64) -> u64
     }
     let high = a * (b / 4_294_967_296);
     let low = a * (b % 4_294_967_296);
-    if high < 4_294_967_296 {
+    let fits = high < 4_294_967_296;
+    if fits {
         plus(high * 4_294_967_296, low)
     } else {
         LARGEST

@@ -59,7 +59,8 @@ pub fn reduce(base: u64, numerators: &mut [u64]) -> u64
     ensures numerators_after { numerators.new ≡ reduced_numerators base numerators.old }
 {
     let common = common_divisor(base, numerators);
-    if common < 2 {
+    let least = common < 2;
+    if least {
         return base;
     }
     divide(common, numerators);

@@ -24,8 +24,8 @@ module _ (row : Row) {c : ℕ} (found : c ≡ cell_found (first_of row)) where
       go (inl s) = rw (nothing_of_silent row s)
       go (inr (i, f)) = absurd (omega (arith, found ∙ ap cell_found (at_of_first row f), f.below))
 
-pub returns-then-c-lt64 : goal.returns-then-c-lt64
-returns-then-c-lt64 c = c.refused.ensures ∙ sym (refuses _ c.free_cell-c.ensures (omega arith))
+pub returns-then-found : goal.returns-then-found
+returns-then-found c = c.refused.ensures ∙ sym (refuses _ c.free_cell-c.ensures (omega arith))
 
 pub returns : goal.returns
 returns c = sym (accepts _ c.free_cell-c.ensures (omega arith) (omega arith))

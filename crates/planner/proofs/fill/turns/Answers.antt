@@ -12,10 +12,10 @@ use Rattle.planner.proofs.LastTurn.{base_now, left_now, parts_now, levels_now, l
 use Rattle.planner.proofs.Turns.{Turn, next_is, room_met, room_met_parts, met_turn, unmet_on, happened_turn}
 use Rattle.planner.proofs.Turns.{limit_listed, room_shut, room_shut_parts, flow_listed, holds_left, holds_parts}
 use Rattle.planner.proofs.fill.turns.Goals as goal
-use Rattle.planner.proofs.fill.turns.Goals.{At-loop-mode}
+use Rattle.planner.proofs.fill.turns.Goals.{At-turns}
 
 -- Every turn begins with what holds between two turns.
-module _ (c : At-loop-mode) where
+module _ (c : At-turns) where
   abbrev Sharing : List ℕ → Problem
   Sharing capacities = problem c.args.mode.cards capacities c.args.demands.now c.args.minima.now c.args.weights.now
 
@@ -25,7 +25,7 @@ module _ (c : At-loop-mode) where
   abbrev Now : List ℕ → Type 0
   Now capacities =
       Engaged c.args.mode.cards capacities c.args.demands.now c.args.minima.now c.args.weights.now c.args.mode.held
-      c.loop-mode.at c.loop-mode.stages c.loop-mode.levels c.loop-mode.left c.loop-mode.parts
+      c.turns.at c.turns.stages c.turns.levels c.turns.left c.turns.parts
 
   -- the capacities that the filling began with, which the loop does not hold
   abbrev own : List ℕ
@@ -35,7 +35,7 @@ module _ (c : At-loop-mode) where
   fit = c.requires.modest
 
   engaged : Now own
-  engaged = c.loop-mode.invariant own fit c.requires.engaged
+  engaged = c.turns.invariant own fit c.requires.engaged
 
   minima_small : Bounded 64 most_asked c.args.minima.now
   minima_small =
@@ -49,44 +49,44 @@ module _ (c : At-loop-mode) where
   module _ (level : Level)
       (found : Small level
       × (next_of level
-      ≡ next_event c.args.mode.cards c.args.mode.held c.loop-mode.at.base c.args.minima.now c.args.weights.now
-      c.loop-mode.stages c.loop-mode.left c.loop-mode.parts))
+      ≡ next_event c.args.mode.cards c.args.mode.held c.turns.at.base c.args.minima.now c.args.weights.now
+      c.turns.stages c.turns.left c.turns.parts))
       (some_parts : level.parts ≡ 0 → ⊥) where
     turn : {capacities : List ℕ} → Fit capacities → Now capacities
         → Turn c.args.mode.cards capacities c.args.demands.now c.args.minima.now c.args.weights.now c.args.mode.heaviest
-        c.args.mode.held c.loop-mode.at c.loop-mode.stages c.loop-mode.levels c.loop-mode.left c.loop-mode.parts level
+        c.args.mode.held c.turns.at c.turns.stages c.turns.levels c.turns.left c.turns.parts level
     turn fits at = record { modest = fits; now = at; is = found.1 ∙ next_is at; pos = omega arith }
 
 pub next_level-level-requires-clause-left_len : goal.next_level-level-requires-clause-left_len
 next_level-level-requires-clause-left_len c =
-    let l = (goal.at.next_level-level-requires-clause-left_len c).At-loop-mode in
+    let l = (goal.at.next_level-level-requires-clause-left_len c).At-turns in
     let at = engaged l in
     (at.long.2, left_now (fit l) at, at.long.3, parts_now (fit l) at)
 
 pub next_level-level-requires-clause-base_le_most_base :
     goal.next_level-level-requires-clause-base_le_most_base
 next_level-level-requires-clause-base_le_most_base c =
-    let l = (goal.at.next_level-level-requires-clause-base_le_most_base c).At-loop-mode in
+    let l = (goal.at.next_level-level-requires-clause-base_le_most_base c).At-turns in
     let at = engaged l in
     (base_now (fit l) at, at.long.0, c.requires.long.1, minima_small l, c.requires.long.2, weights_small l)
 
 -- Nothing can happen any more.
-pub returns-then-level-eq0 : goal.returns-then-level-eq0
-returns-then-level-eq0 c =
+pub returns-then-ended : goal.returns-then-ended
+returns-then-ended c =
     record {
       each = λ capacities fits at₀.
-          let at = c.loop-mode.invariant capacities fits at₀ in (
+          let at = c.turns.invariant capacities fits at₀ in (
             base_now fits at,
             at.long.0,
             at.long.1,
             levels_now fits at,
-            fair_at_last fits at c.next_level-level.result (c.next_level-level.ensures.1 ∙ next_is at) c.if-level-eq0.true,
+            fair_at_last fits at c.next_level-level.result (c.next_level-level.ensures.1 ∙ next_is at) c.if-ended.true,
           );
     }
 
 pub stop_some-met-requires-clause-stages_len : goal.stop_some-met-requires-clause-stages_len
 stop_some-met-requires-clause-stages_len c =
-    let l = (goal.at.stop_some-met-requires-clause-stages_len c).At-loop-mode in
+    let l = (goal.at.stop_some-met-requires-clause-stages_len c).At-turns in
     let at = engaged l in (
       at.long.0,
       base_now (fit l) at,
@@ -98,44 +98,44 @@ stop_some-met-requires-clause-stages_len c =
 
 pub stop_some-met-requires-clause-roomy : goal.stop_some-met-requires-clause-roomy
 stop_some-met-requires-clause-roomy c =
-    let l = (goal.at.stop_some-met-requires-clause-roomy c).At-loop-mode in
-    let one = turn l c.next_level-level.result c.next_level-level.ensures c.if-level-eq0.false (fit l) (engaged l) in
+    let l = (goal.at.stop_some-met-requires-clause-roomy c).At-turns in
+    let one = turn l c.next_level-level.result c.next_level-level.ensures c.if-ended.false (fit l) (engaged l) in
     (room_met one, room_met_parts one)
 
 -- The flows that meet their demands have stopped.
-pub loop-mode-smaller-then-met : goal.loop-mode-smaller-then-met
+pub turns-smaller-then-met : goal.turns-smaller-then-met
 unfolding work state_of standing
-loop-mode-smaller-then-met c =
-    let l = (goal.at.loop-mode-smaller-then-met c).At-loop-mode in
-    let one = turn l c.next_level-level.result c.next_level-level.ensures c.if-level-eq0.false (fit l) (engaged l) in
+turns-smaller-then-met c =
+    let l = (goal.at.turns-smaller-then-met c).At-turns in
+    let one = turn l c.next_level-level.result c.next_level-level.ensures c.if-ended.false (fit l) (engaged l) in
     let met = c.stop_some-met.ensures in
     (met_turn one c.stop_some-met.result.least _ _ _ met.light met.swept (sym met.any_value ∙ c.if-met.true)).1
 
-pub loop-mode-preserved-then-met : goal.loop-mode-preserved-then-met
-loop-mode-preserved-then-met c capacities fits at =
-    let l = (goal.at.loop-mode-preserved-then-met c).At-loop-mode in
+pub turns-preserved-then-met : goal.turns-preserved-then-met
+turns-preserved-then-met c capacities fits at =
+    let l = (goal.at.turns-preserved-then-met c).At-turns in
     let one =
-    turn l c.next_level-level.result c.next_level-level.ensures c.if-level-eq0.false fits
-    (c.loop-mode.invariant capacities fits at) in
+    turn l c.next_level-level.result c.next_level-level.ensures c.if-ended.false fits
+    (c.turns.invariant capacities fits at) in
     let met = c.stop_some-met.ensures in
     (met_turn one c.stop_some-met.result.least _ _ _ met.light met.swept (sym met.any_value ∙ c.if-met.true)).0
 
 -- None has, and the turn goes on with what the level stands for.
 pub happen-at-requires-clause-small : goal.happen-at-requires-clause-small
 happen-at-requires-clause-small c =
-    let l = (goal.at.happen-at-requires-clause-small c).At-loop-mode in
+    let l = (goal.at.happen-at-requires-clause-small c).At-turns in
     let at = engaged l in
     (c.next_level-level.ensures.0, base_now (fit l) at, c.stop_some-met.ensures.swept.marked.long, at.long.1)
 
 pub happen-at-requires-clause-weights_len : goal.happen-at-requires-clause-weights_len
 happen-at-requires-clause-weights_len c =
-    let l = (goal.at.happen-at-requires-clause-weights_len c).At-loop-mode in
+    let l = (goal.at.happen-at-requires-clause-weights_len c).At-turns in
     (c.requires.long.2, weights_small l, c.requires.long.1, minima_small l)
 
 pub happen-at-requires-clause-fills_ready : goal.happen-at-requires-clause-fills_ready
 happen-at-requires-clause-fills_ready c =
-    let l = (goal.at.happen-at-requires-clause-fills_ready c).At-loop-mode in
-    let one = turn l c.next_level-level.result c.next_level-level.ensures c.if-level-eq0.false (fit l) (engaged l) in
+    let l = (goal.at.happen-at-requires-clause-fills_ready c).At-turns in
+    let one = turn l c.next_level-level.result c.next_level-level.ensures c.if-ended.false (fit l) (engaged l) in
     let met = c.stop_some-met.ensures in
     let on = unmet_on one c.stop_some-met.result.least _ _ _ met.light met.swept (sym met.any_value ∙ c.if-met.false) in (
       record {
@@ -151,25 +151,25 @@ happen-at-requires-clause-fills_ready c =
     )
 
 -- What the level stands for has happened.
-pub loop-mode-smaller : goal.loop-mode-smaller
+pub turns-smaller : goal.turns-smaller
 unfolding work state_of standing
-loop-mode-smaller c =
-    let l = (goal.at.loop-mode-smaller c).At-loop-mode in
-    let one = turn l c.next_level-level.result c.next_level-level.ensures c.if-level-eq0.false (fit l) (engaged l) in
+turns-smaller c =
+    let l = (goal.at.turns-smaller c).At-turns in
+    let one = turn l c.next_level-level.result c.next_level-level.ensures c.if-ended.false (fit l) (engaged l) in
     let met = c.stop_some-met.ensures in
     let on = unmet_on one c.stop_some-met.result.least _ _ _ met.light met.swept (sym met.any_value ∙ c.if-met.false) in
     subst
     (λ (st : List ℕ).
     work (Sharing l (own l)) (state_of (Sharing l (own l)) c.happen-at.result.base c.happen-at.new.stages c.happen-at.new.levels)
-    < work (Sharing l (own l)) (state_of (Sharing l (own l)) c.loop-mode.at.base st c.loop-mode.levels))
+    < work (Sharing l (own l)) (state_of (Sharing l (own l)) c.turns.at.base st c.turns.levels))
     on.2 (happened_turn on.0 on.1 _ _ _ _ _ c.happen-at.ensures).1
 
-pub loop-mode-preserved : goal.loop-mode-preserved
-loop-mode-preserved c capacities fits at =
-    let l = (goal.at.loop-mode-preserved c).At-loop-mode in
+pub turns-preserved : goal.turns-preserved
+turns-preserved c capacities fits at =
+    let l = (goal.at.turns-preserved c).At-turns in
     let one =
-    turn l c.next_level-level.result c.next_level-level.ensures c.if-level-eq0.false fits
-    (c.loop-mode.invariant capacities fits at) in
+    turn l c.next_level-level.result c.next_level-level.ensures c.if-ended.false fits
+    (c.turns.invariant capacities fits at) in
     let met = c.stop_some-met.ensures in
     let on = unmet_on one c.stop_some-met.result.least _ _ _ met.light met.swept (sym met.any_value ∙ c.if-met.false) in
     (happened_turn on.0 on.1 _ _ _ _ _ c.happen-at.ensures).0

@@ -3,10 +3,10 @@ use Rattle.std.proofs.Common.{◌∙◌, arith}
 use Rattle.worked.proofs.Saturated.{product_split}
 use Rattle.shares.proofs.arithmetic.times.Goals as goal
 
-pub returns-then-high-lt4294967296 : goal.returns-then-high-lt4294967296
-returns-then-high-lt4294967296 c =
+pub returns-then-fits : goal.returns-then-fits
+returns-then-fits c =
     c.plus.ensures ∙ omega (arith, product_split c.args.a c.args.b)
 
-pub returns-else-high-lt4294967296 : goal.returns-else-high-lt4294967296
-returns-else-high-lt4294967296 c =
+pub returns-else-fits : goal.returns-else-fits
+returns-else-fits c =
     omega (arith, product_split c.args.a c.args.b)
