@@ -13,12 +13,12 @@ use Rattle.worked.specs.declared.side.Weighed.{Weighed}
 
 -- `full` and `side` are what two calls gave, and the others what their contracts say that it is.
 module _ {full full' : List ℕ} {side side' : Side} (scale : full ≡ full') (sums : side ≡ side')
-    (full-long : length full' ≡ 8) (side-long : length side'.sums ≡ 8) where
+    (full_long : length full' ≡ 8) (side_long : length side'.sums ≡ 8) where
   sums_long : length side.sums ≡ 8
-  sums_long = ap (λ (s : Side). length s.sums) sums ∙ side-long
+  sums_long = ap (λ (s : Side). length s.sums) sums ∙ side_long
 
   pub lengths : (length full ≡ length side.sums) × (length side.sums < 4_294_967_296)
-  lengths = (ap length scale ∙ full-long ∙ sym sums_long, omega (arith, sums_long))
+  lengths = (ap length scale ∙ full_long ∙ sym sums_long, omega (arith, sums_long))
 
   pub weighed : (cause : Cause) {over : Verdict} {table : List ℕ}
       → over ≡ row_verdict (more_row cause (length side.sums) full side.sums)

@@ -74,30 +74,30 @@ module _ (P : Problem) (f d e : ℕ) (a : Allocation) (fair : Fair (asking P f d
 pub entitled : (P : Problem) → ((c : ℕ) → c < P.flows → 0 < P.weight c) → (f : ℕ) → f < P.flows → (d e : ℕ) → e ≤ d
     → (a z : Allocation) → Fair (asking P f d) a → Fair (asking P f e) z
     → z.numerator f * a.base ≡ min (e * a.base) (a.numerator f) * z.base
-entitled P weighed f hf d e le a z fairA fairZ =
+entitled P weighed f hf d e le a z fair_a fair_z =
     go (le_or_lt (a.numerator f) (e * a.base)) (le_or_lt (e * z.base) (z.numerator f))
   where
     top : z.numerator f ≤ e * z.base
-    top = rw (eq-eqb f f refl) at (fairZ.allowed.bounded.at_most f hf)
+    top = rw (eq-eqb f f refl) at (fair_z.allowed.bounded.at_most f hf)
 
     go : (a.numerator f ≤ e * a.base) ⊎ (e * a.base < a.numerator f)
         → (e * z.base ≤ z.numerator f) ⊎ (z.numerator f < e * z.base)
         → z.numerator f * a.base ≡ min (e * a.base) (a.numerator f) * z.base
     go (inl h) t =
-        let same = same_of_fair (asking P f e) weighed a z (fair_at_other P f d e a fairA h
-        (λ met. le_antisymm h (omega (arith, mul-le-mul_right a.base le)))) fairZ in
+        let same = same_of_fair (asking P f e) weighed a z (fair_at_other P f d e a fair_a h
+        (λ met. le_antisymm h (omega (arith, mul-le-mul_right a.base le)))) fair_z in
         rw (min-eq_right h) (sym (same.same f hf))
     go (inr h) (inl l) =
         let met : z.numerator f ≡ e * z.base = le_antisymm top l in
         rw (min-eq_left (le_of_lt h), met) (omega arith)
     go (inr h) (inr l) =
-        let same = same_of_fair (asking P f d) weighed a z fairA (fair_at_other P f e d z fairZ
+        let same = same_of_fair (asking P f d) weighed a z fair_a (fair_at_other P f e d z fair_z
         (omega (arith, mul-le-mul_right z.base le)) (λ met. absurd (omega arith))) in
         absurd (omega (
           arith,
           same.same f hf,
-          mul-lt-mul_of_pos_right l fairA.allowed.positive,
-          mul-lt-mul_of_pos_right h fairZ.allowed.positive,
+          mul-lt-mul_of_pos_right l fair_a.allowed.positive,
+          mul-lt-mul_of_pos_right h fair_z.allowed.positive,
         ))
 
 -- The floor. A flow that asks for at least the capacity of each of its limits, in none of which a flow has a minimum,

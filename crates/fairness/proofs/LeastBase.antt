@@ -38,5 +38,5 @@ least_unique n b₁ b₂ x₁ x₂ pos same h k =
     let e : b₁ ≡ b₂ = le_antisymm h k in
     (e, λ i l. eq_of_mul-eq-mul_right b₁ pos (x₁ i) (x₂ i) (ap (λ b. x₁ i * b) e ∙ same i l))
 
-pub get_d_divided : (xs : List ℕ) (g i : ℕ) → get_or (divided g xs) i 0 ≡ get_or xs i 0 / g
-get_d_divided xs g i = rw zero-div at (get_or-map (λ x. x / g) xs i 0)
+pub get_or-divided : (xs : List ℕ) (g i : ℕ) → get_or (divided g xs) i 0 ≡ get_or xs i 0 / g
+get_or-divided xs g i = rw zero-div at (get_or-map (λ x. x / g) xs i 0)

@@ -12,33 +12,33 @@ use Rattle.fairness.specs.Fairness.{Allocation, SameRates, LeastBase}
 use Rattle.fairness.specs.Divisor.{divided, GcdOf}
 use Rattle.fairness.specs.Filling.{State, Event, nothing, fills, reaches, over, start, next, some, meets}
 use Rattle.fairness.specs.Filling.{stop_met, shut, free, happen, round, fill, work, filled}
-use Rattle.fairness.proofs.LeastBase.{divided_same, divided-le, least_unique, get_d_divided}
+use Rattle.fairness.proofs.LeastBase.{divided_same, divided-le, least_unique, get_or-divided}
 use Rattle.laws.proofs.Lists.{length-list}
 
 module _ (P : Problem) (b g : ℕ) (xs : List ℕ) (common : GcdOf b xs g) where
   pub reduced_same : SameRates P (over b xs) (over (b / g) (divided g xs))
   reduced_same =
-      record { same = λ c hc. rw (get_d_divided xs g c) (sym (divided_same common c)) }
+      record { same = λ c hc. rw (get_or-divided xs g c) (sym (divided_same common c)) }
 
   pub reduced_least : 0 < b → length xs ≡ P.flows → LeastBase P (over (b / g) (divided g xs))
   reduced_least pos long =
-      record { least = λ z posZ same. divided-le common pos z.base z.numerator posZ (λ i h. unreduced z i (same.same i (omega arith))) }
+      record { least = λ z pos_z same. divided-le common pos z.base z.numerator pos_z (λ i h. unreduced z i (same.same i (omega arith))) }
     where
       unreduced : (z : Allocation) (i : ℕ) → get_or (divided g xs) i 0 * z.base ≡ z.numerator i * (b / g)
           → get_or xs i 0 * z.base ≡ z.numerator i * b
       unreduced z i e =
           omega (
             arith,
-            ap (λ k. k * g) (rw (get_d_divided xs g i) at e),
+            ap (λ k. k * g) (rw (get_or-divided xs g i) at e),
             ap (λ k. k * z.base) (div-mul_cancel g (common.each i)),
             ap (λ k. z.numerator i * k) (div-mul_cancel g common.base),
           )
 
 pub same_of_least : (P : Problem) (a z : Allocation) → 0 < a.base → 0 < z.base → SameRates P a z → LeastBase P a → LeastBase P z
     → (a.base ≡ z.base) × ((c : ℕ) → c < P.flows → a.numerator c ≡ z.numerator c)
-same_of_least P a z posA posZ same leastA leastZ =
-    least_unique P.flows a.base z.base a.numerator z.numerator posA same.same
-    (leastA.least z posZ same) (leastZ.least a posA (record { same = λ c hc. sym (same.same c hc) }))
+same_of_least P a z pos_a pos_z same least_a least_z =
+    least_unique P.flows a.base z.base a.numerator z.numerator pos_a same.same
+    (least_a.least z pos_z same) (least_z.least a pos_a (record { same = λ c hc. sym (same.same c hc) }))
 
 -- Every state of a filling holds as many numbers as there are flows.
 length-happen : (P : Problem) (s : State) (e : _) (v : Event) → length s.fixed ≡ P.flows → length (happen P s e v).fixed ≡ P.flows

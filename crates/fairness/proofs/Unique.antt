@@ -14,7 +14,7 @@ use Rattle.fairness.proofs.Settled.{settled_of_fair}
 
 -- If a gives f less than z does, then at a's bottleneck of f some flow has less in z than in a; and that flow is
 -- lower in z than f is in a. So f is not the lowest flow at which the two differ.
-module _ (P : Problem) (weighed : (c : ℕ) → c < P.flows → 0 < P.weight c) (a z : Allocation) (okA : Allowed P a) (okZ : Allowed P z)
+module _ (P : Problem) (weighed : (c : ℕ) → c < P.flows → 0 < P.weight c) (a z : Allocation) (ok_a : Allowed P a) (ok_z : Allowed P z)
     (f : ℕ) (hf : f < P.flows) (less : a.numerator f * z.base < z.numerator f * a.base) where
   abbrev Loses : ℕ → ℕ → Type 0
   Loses l g = (P.through l g ≡ true) × (z.numerator g * a.base < a.numerator g * z.base)
@@ -47,7 +47,7 @@ module _ (P : Problem) (weighed : (c : ℕ) → c < P.flows → 0 < P.weight c) 
           total_linear P.flows (P.through l) a.numerator (one f) z.numerator (one f) z.base 1 a.base 0
           (λ g hg m. gains holds g hg m (eq_or_not g f)) in
           let gain = total-one P.flows (P.through l) f hf neck.passes in
-          let room = mul-le-mul_right a.base (okZ.feasible.room l hl) in
+          let room = mul-le-mul_right a.base (ok_z.feasible.room l hl) in
           absurd (omega (arith, ap (λ k. k * z.base) neck.full))
 
   lower : (l : ℕ) → Bottleneck P a l f → (g : ℕ) → g < P.flows → Loses l g
@@ -60,7 +60,7 @@ module _ (P : Problem) (weighed : (c : ℕ) → c < P.flows → 0 < P.weight c) 
           let scaled = mul-lt-mul_of_pos_right h (weighed f hf) in
           omega (arith, mul-le-mul_right z.base low)
       go (inr e) =
-          let least = mul-le-mul_right a.base (okZ.bounded.at_least g hg) in
+          let least = mul-le-mul_right a.base (ok_z.bounded.at_least g hg) in
           absurd (omega (arith, ap (λ k. k * z.base) e))
 
   not_the_lowest : SettledAt P a f
@@ -68,7 +68,7 @@ module _ (P : Problem) (weighed : (c : ℕ) → c < P.flows → 0 < P.weight c) 
       → a.numerator f * z.base * P.weight g ≤ z.numerator g * a.base * P.weight f)
       → ⊥
   not_the_lowest (inl met) least =
-      let top = mul-le-mul_right a.base (okZ.bounded.at_most f hf) in omega (arith, ap (λ k. k * z.base) met)
+      let top = mul-le-mul_right a.base (ok_z.bounded.at_most f hf) in omega (arith, ap (λ k. k * z.base) met)
   not_the_lowest (inr (l, hl, neck)) least =
       let w = somebody_loses l hl neck in
       omega (arith, lower l neck w.0 w.1 w.2, least w.0 w.1 w.2.1)
@@ -91,8 +91,8 @@ module _ (P : Problem) (weighed : (c : ℕ) → c < P.flows → 0 < P.weight c) 
       → ((g : ℕ) → g < P.flows → (scaled a z g ≡ scaled z a g)
       ⊎ (min (scaled a z f) (scaled z a f) * P.weight g ≤ min (scaled a z g) (scaled z a g) * P.weight f))
       → ⊥
-  not_lowest a z fairA fairZ f hf h least =
-      not_the_lowest P weighed a z fairA.allowed fairZ.allowed f hf h ((settled_of_fair P a fairA).each f hf)
+  not_lowest a z fair_a fair_z f hf h least =
+      not_the_lowest P weighed a z fair_a.allowed fair_z.allowed f hf h ((settled_of_fair P a fair_a).each f hf)
       (λ g hg l. pick g l (least g hg))
     where
       pick : (g : ℕ) → scaled z a g < scaled a z g
@@ -103,7 +103,7 @@ module _ (P : Problem) (weighed : (c : ℕ) → c < P.flows → 0 < P.weight c) 
       pick g l (inr k) = rw (min-eq_left (le_of_lt h), min-eq_right (le_of_lt l)) at k
 
   pub same_of_fair : (a z : Allocation) → Fair P a → Fair P z → SameRates P a z
-  same_of_fair a z fairA fairZ =
+  same_of_fair a z fair_a fair_z =
       record {
         same = go (least_or_none P.flows (λ c. scaled a z c ≡ scaled z a c)
             (λ c. (scaled a z c < scaled z a c) ⊎ (scaled z a c < scaled a z c))
@@ -117,9 +117,9 @@ module _ (P : Problem) (weighed : (c : ℕ) → c < P.flows → 0 < P.weight c) 
           ⊎ (min (scaled a z f) (scaled z a f) * P.weight g ≤ min (scaled a z g) (scaled z a g) * P.weight f)))
           → (c : ℕ) → c < P.flows → scaled a z c ≡ scaled z a c
       go (inl same) = same
-      go (inr (f, hf, inl h, least)) = absurd (not_lowest a z fairA fairZ f hf h least)
+      go (inr (f, hf, inl h, least)) = absurd (not_lowest a z fair_a fair_z f hf h least)
       go (inr (f, hf, inr h, least)) =
-          absurd (not_lowest z a fairZ fairA f hf h
+          absurd (not_lowest z a fair_z fair_a f hf h
           (λ g hg. elim (least g hg) [
             | inl e ↦ inl (sym e)
             | inr k ↦ inr (rw (min_comm (scaled z a f) (scaled a z f), min_comm (scaled z a g) (scaled a z g)) k)

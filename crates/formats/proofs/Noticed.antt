@@ -46,10 +46,10 @@ by_block row at is few h =
 module _ (file : List ℕ) where
   pub frame_rising : (bytes blocks : ℕ) (kinds : List ℕ) {rest : List Row} → blocks ≤ 3 → length kinds ≤ 3
       → Each (Rising 0 383) rest → Each (Rising 0 383) (length_row bytes file ∷ check_row blocks file ∷ kind_row kinds file ∷ rest)
-  frame_rising bytes blocks kinds few kind-few rest =
+  frame_rising bytes blocks kinds few kind_few rest =
       each_cons _ (rising_alone (length_row bytes file) 0 (λ i. refl) (omega arith))
       (each_cons _ (by_block (check_row blocks file) 127 (λ b. refl) few (omega arith))
-      (each_cons _ (by_block (kind_row kinds file) 0 (λ b. omega arith) kind-few (omega arith)) rest))
+      (each_cons _ (by_block (kind_row kinds file) 0 (λ b. omega arith) kind_few (omega arith)) rest))
 
   pub spare_rising : {low high : ℕ} (block from count : ℕ) → low ≤ 128 * block + from → 128 * block + from + count ≤ high
       → Rising low high (spare_row block from count file)

@@ -20,9 +20,9 @@ use Rattle.formats.proofs.PlanSound.{sound_of_well_formed}
 use Rattle.formats.proofs.PlanWritten.{judged_as_file, written_accepted_by_check, request_held, plan_held, words_held}
 use Rattle.formats.proofs.Saving.{write_accepts, saved, refused_write_keeps, write_keeps_rest}
 
-check-rows_in_order : (file : List ℕ)
+check_rows_in_order : (file : List ℕ)
     → numbers_of (plan_file_rows file) ≡ 1 ∷ 2 ∷ 3 ∷ 4 ∷ 5 ∷ 6 ∷ 7 ∷ 8 ∷ 9 ∷ 10 ∷ 11 ∷ 12 ∷ 13 ∷ 14 ∷ 15 ∷ []
-check-rows_in_order file = refl
+check_rows_in_order file = refl
 
 pub checking_shown : Checking
 checking_shown =
@@ -35,7 +35,7 @@ checking_shown =
       fault = check_fault;
       first = check_first;
       none = check_none;
-      order = check-rows_in_order;
+      order = check_rows_in_order;
       damage_refused = λ file bytes size passes b k w hb hk hw differs.
           rw (plan_damage_refused file bytes size passes b k w hb hk hw differs) (refl, refl);
     }

@@ -47,11 +47,11 @@ same_where false same = refl
 -- The same rates have the same reasons in every cell.
 same_reasons : (r : Request) (a z : Rates) → 0 < a.base → 0 < z.base → SameRates r a z
     → (c : ℕ) → c < 64 → reason_of r a c ≡ reason_of r z c
-same_reasons r a z posA posZ same c h =
+same_reasons r a z pos_a pos_z same c h =
     same_where (used_cell r c)
     (λ e.
     let (u, v) = below_of_used r (input_of c) (output_of c) (sym (used_cell_of_ports r c h) ∙ e) in
-    reason_same r a z posA posZ same (input_of c) (output_of c) (record { input = u; output = v }))
+    reason_same r a z pos_a pos_z same (input_of c) (output_of c) (record { input = u; output = v }))
 
 over_any_base : (r : Request) (p q : Plan) → judged r p ≡ Accepted → PlanWithin r q → SameRates r (rates_of p) (rates_of q)
     → ((c : ℕ) → c < 64 → said_reason q c ≡ said_reason p c) → judged r q ≡ Accepted

@@ -64,9 +64,9 @@ module _ (cards : Bool) (limit high : ℕ) (weights stages left parts : List ℕ
             )
 
     pub walk_starts : length stages ≡ 64 → length left ≡ 20 → length parts ≡ 20 → Walked (first_of limit) stages left parts
-    walk_starts longS longL longP =
+    walk_starts long_s long_l long_p =
         arrived (first_of limit) stages left parts walk.first_on 0 (omega arith) (omega arith) (λ c g b. walk.before c b)
-        (swept_none cards _ _ _ stages left parts longS longL longP)
+        (swept_none cards _ _ _ stages left parts long_s long_l long_p)
 
     pub walk_goes_on : (cell : ℕ) (stages' left' parts' : List ℕ) → cell < end_of limit → OnLine limit cell
         → SweptTo cell stages' left' parts' → (stages₁ left₁ parts₁ : List ℕ)

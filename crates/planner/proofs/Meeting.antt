@@ -56,7 +56,7 @@ pub swept_unmet : (cards : Bool) (base : ℕ) (level : Level) (demands weights s
     → length stages ≡ 64 → length left ≡ 20 → length parts ≡ 20
     → Swept cards 64 (met_stage base level demands weights stages) (met_rate base level demands weights stages)
     (met_weight base level demands weights stages) stages stages left left parts parts
-swept_unmet cards base level demands weights stages left parts none longS longL longP =
+swept_unmet cards base level demands weights stages left parts none long_s long_l long_p =
     swept_past cards (met_stage base level demands weights stages) (met_rate base level demands weights stages)
     (met_weight base level demands weights stages) stages stages left left parts parts 0 64 (omega arith) (omega arith)
-    (λ c g h. rw (none c h) (refl, refl, refl)) (swept_none cards _ _ _ stages left parts longS longL longP)
+    (λ c g h. rw (none c h) (refl, refl, refl)) (swept_none cards _ _ _ stages left parts long_s long_l long_p)

@@ -35,12 +35,12 @@ module _ {cards : Bool} {c : ℕ} (demand minimum weight : ℕ) {stages left par
 
   pub begun_silent : minimum ≤ 0 → demand ≤ 0 → length left ≡ 20 → length parts ≡ 20
       → Halted cards c (first_stage demand minimum) minimum (first_weight demand minimum weight) stages (set stages c 21) left left parts parts
-  begun_silent none silent longL longP =
+  begun_silent none silent long_l long_p =
       rw (le-ltb 0 minimum none, le-ltb 0 demand silent)
       (record {
         marked = refl;
-        taken = lowered_none cards c minimum left longL (omega arith);
-        freed = lowered_none cards c 0 parts longP refl;
+        taken = lowered_none cards c minimum left long_l (omega arith);
+        freed = lowered_none cards c 0 parts long_p refl;
       })
 
 -- What rises through the limits, from nothing.

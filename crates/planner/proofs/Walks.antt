@@ -23,11 +23,11 @@ lowered_none cards c x t long e =
 
 pub halted_marked : {cards : Bool} {c stage x weight : ℕ} {stages stages' left parts : List ℕ} → stages' ≡ set stages c stage → x ≡ 0
     → weight ≡ 0 → length left ≡ 20 → length parts ≡ 20 → Halted cards c stage x weight stages stages' left left parts parts
-halted_marked {cards} {c} {stage} {x} {weight} {stages} {stages'} {left} {parts} e ex ew longL longP =
+halted_marked {cards} {c} {stage} {x} {weight} {stages} {stages'} {left} {parts} e ex ew long_l long_p =
     record {
       marked = e;
-      taken = lowered_none cards c x left longL ex;
-      freed = lowered_none cards c weight parts longP ew;
+      taken = lowered_none cards c x left long_l ex;
+      freed = lowered_none cards c weight parts long_p ew;
     }
 
 pub halted_none : {cards : Bool} {c stage x weight : ℕ} {stages left parts : List ℕ} → stage ≡ cells stages c → x ≡ 0 → weight ≡ 0
@@ -118,11 +118,11 @@ module _ (rule : ℕ → ℕ) (old new : List ℕ) where
 -- All three tables at once.
 pub swept_none : (cards : Bool) (stage x weight : ℕ → ℕ) (stages left parts : List ℕ) → length stages ≡ 64 → length left ≡ 20
     → length parts ≡ 20 → Swept cards 0 stage x weight stages stages left left parts parts
-swept_none cards stage x weight stages left parts longS longL longP =
+swept_none cards stage x weight stages left parts long_s long_l long_p =
     record {
-      marked = marked_none stage stages stages longS;
-      taken = taken_none cards x left left longL;
-      freed = taken_none cards weight parts parts longP;
+      marked = marked_none stage stages stages long_s;
+      taken = taken_none cards x left left long_l;
+      freed = taken_none cards weight parts parts long_p;
     }
 
 module _ (cards : Bool) (stage x weight : ℕ → ℕ) (stages stages' left left' parts parts' : List ℕ) where

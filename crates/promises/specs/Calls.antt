@@ -1,7 +1,8 @@
--- What the promises settle, call by call: every public function of every library, with its own contract as the prover reads it off
--- the source (`Asked` is what its `requires` asks of a caller, `Post` what its `ensures` allows), what a caller sees of an outcome,
--- and the definition that this is. Arguments and final states have one part for each parameter, in their order, and `now` is what
--- a reference refers to. Of a slice that is handed back a caller sees its bytes and its place in memory, and no more.
+-- What the promises settle, call by call: every public function of every library for Rattle, with its own contract as the prover
+-- reads it off the source (`Asked` is what its `requires` asks of a caller, `Post` what its `ensures` allows), what a caller sees of an
+-- outcome, and the definition that this is. The library for C, on which no crate can stand, says of each export what `export` says of
+-- its call (tests/calls holds the two beside each other). Arguments and final states have one part for each parameter, in their order,
+-- and `now` is what a reference refers to. Of a slice that is handed back a caller sees its bytes and its place in memory, and no more.
 use Rattle.std.specs.Prelude.{◌+◌, ◌*◌, min, cond, [], get_or}
 use Rattle.fairness.specs.Divisor.{gcd, gcd_of}
 use Rattle.words.specs.Words.{word_at, with_word}

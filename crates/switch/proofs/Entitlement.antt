@@ -86,14 +86,14 @@ module _ (r : Request) (w : Within r) where
 -- A flow passes its two ports and no other limit.
 port_passed : (u : Input) (v : Output) → u.0 < 8 → v.0 < 8 → (Q : ℕ → Type 0) → Q (input_limit u) → Q (output_limit v)
     → (l : ℕ) → passes l (cell_of u v) ≡ true → Q l
-port_passed u v hu hv Q atInput atOutput l e =
+port_passed u v hu hv Q at_input at_output l e =
     let row : min ((8 * u.0 + v.0) / 8) 8 ≡ u.0 = omega arith in
     let column : (8 * u.0 + v.0) % 8 ≡ v.0 = omega arith in
     go (true_or_false (eqb u.0 l)) (rw (row, column) at e)
   where
     go : (eqb u.0 l ≡ true) ⊎ (eqb u.0 l ≡ false) → (eqb u.0 l || eqb (8 + v.0) l) ≡ true → Q l
-    go (inl q) either = subst Q (eqb-true u.0 l q) atInput
-    go (inr q) either = subst Q (eqb-true (8 + v.0) l (rw q at either)) atOutput
+    go (inl q) either = subst Q (eqb-true u.0 l q) at_input
+    go (inr q) either = subst Q (eqb-true (8 + v.0) l (rw q at either)) at_output
 
 module _ (r : Request) (w : Within r) (t : Shaped r) (u : Input) (v : Output) (is : Used r u v) where
   abbrev c : ℕ

@@ -139,14 +139,14 @@ module _ (r : Request) (w : Within r) where
 
   -- and only one.
   pub only_one_is_fair : (a z : Rates) → Fair r a → Fair r z → SameRates r a z
-  only_one_is_fair a z fairA fairZ =
-      let agreeA = agree_blanked r w a in
-      let agreeZ = agree_blanked r w z in
+  only_one_is_fair a z fair_a fair_z =
+      let agree_a = agree_blanked r w a in
+      let agree_z = agree_blanked r w z in
       let same = same_of_fair (problem_of r) (λ c h. omega arith) (general (blanked r a)) (general (blanked r z))
-      (general_of_fair (blanked r a) (blank_blanked r w a) (agree_fair r a (blanked r a) agreeA fairA))
-      (general_of_fair (blanked r z) (blank_blanked r w z) (agree_fair r z (blanked r z) agreeZ fairZ)) in
+      (general_of_fair (blanked r a) (blank_blanked r w a) (agree_fair r a (blanked r a) agree_a fair_a))
+      (general_of_fair (blanked r z) (blank_blanked r w z) (agree_fair r z (blanked r z) agree_z fair_z)) in
       record {
         same = λ u v is.
             let low = below_eight r w u v is in
-            rw (agreeA.flows u v is, agreeZ.flows u v is) (same.same (cell_of u v) (omega arith));
+            rw (agree_a.flows u v is, agree_z.flows u v is) (same.same (cell_of u v) (omega arith));
       }

@@ -94,37 +94,37 @@ right_plan_of r w =
     fair = fair_filled (problem_of r) (sound r w)
 
 -- Two right plans are the same numbers: the same rates, over the same least base, with the reasons that follow.
-module _ (r : Request) (w : Within r) (p q : Plan) (rightP : Right r p) (rightQ : Right r q) where
+module _ (r : Request) (w : Within r) (p q : Plan) (right_p : Right r p) (right_q : Right r q) where
   same : SameRates r (rates_of p) (rates_of q)
-  same = only_one_is_fair r w (rates_of p) (rates_of q) rightP.fair rightQ.fair
+  same = only_one_is_fair r w (rates_of p) (rates_of q) right_p.fair right_q.fair
 
   same_base : p.base ≡ q.base
   same_base =
-      le_antisymm (rightP.least.least (rates_of q) rightQ.fair.allocation.positive same)
-      (rightQ.least.least (rates_of p) rightP.fair.allocation.positive
+      le_antisymm (right_p.least.least (rates_of q) right_q.fair.allocation.positive same)
+      (right_q.least.least (rates_of p) right_p.fair.allocation.positive
       (record { same = λ u v is. sym (same.same u v is) }))
 
   same_cell : (c : ℕ) → c < 64 → get_or p.numerators c 0 ≡ get_or q.numerators c 0
   same_cell =
       by_cell r (λ c. get_or p.numerators c 0 ≡ get_or q.numerators c 0)
       (λ u v is.
-      eq_of_mul-eq-mul_right p.base rightP.fair.allocation.positive _ _
+      eq_of_mul-eq-mul_right p.base right_p.fair.allocation.positive _ _
       (ap (λ k. flow (rates_of p) u v * k) same_base ∙ same.same u v is))
-      (λ u v hu hv past. rightP.blank.unused u v hu hv past ∙ sym (rightQ.blank.unused u v hu hv past))
+      (λ u v hu hv past. right_p.blank.unused u v hu hv past ∙ sym (right_q.blank.unused u v hu hv past))
 
   same_numerators : p.numerators ≡ q.numerators
   same_numerators =
-      ext_get_or 0 p.numerators q.numerators (rightP.cells.0 ∙ sym rightQ.cells.0)
-      (λ c h. same_cell c (rw rightP.cells.0 at h))
+      ext_get_or 0 p.numerators q.numerators (right_p.cells.0 ∙ sym right_q.cells.0)
+      (λ c h. same_cell c (rw right_p.cells.0 at h))
 
   same_reasons : p.reasons ≡ q.reasons
   same_reasons =
-      ext_get_or 0 p.reasons q.reasons (rightP.cells.1 ∙ sym rightQ.cells.1)
+      ext_get_or 0 p.reasons q.reasons (right_p.cells.1 ∙ sym right_q.cells.1)
       (λ c h.
-      let low : c < 64 = rw rightP.cells.1 at h in
-      rightP.reasons c low
+      let low : c < 64 = rw right_p.cells.1 at h in
+      right_p.reasons c low
       ∙ ap₂ (λ b xs. reason_of r (record { base = b; numerator = λ k. get_or xs k 0 }) c) same_base same_numerators
-      ∙ sym (rightQ.reasons c low))
+      ∙ sym (right_q.reasons c low))
 
   pub right_unique : p ≡ q
   right_unique = λ i. record { base = same_base i; numerators = same_numerators i; reasons = same_reasons i }

@@ -63,13 +63,13 @@ module _ (r : Request) (a z : Rates) (pos : 0 < a.base) (same : SameRates r a z)
   met_same e = eq_of_mul-eq-mul_right a.base pos _ _ (omega (arith, same.same u v is, ap (λ k. k * z.base) e))
 
   bottleneck_same : 0 < z.base → InputBottleneck r a u v → InputBottleneck r z u v
-  bottleneck_same posZ neck =
+  bottleneck_same pos_z neck =
       let total = sum_same r.n a.base z.base (λ k. flow a u (output k)) (λ k. flow z u (output k))
       (λ k h. same.same u (output k) (record { input = is.input; output = h })) in
       record {
         below =
             lt_of_mul-lt-mul_right a.base
-            (omega (arith, same.same u v is, mul-lt-mul_of_pos_right neck.below posZ));
+            (omega (arith, same.same u v is, mul-lt-mul_of_pos_right neck.below pos_z));
         full = eq_of_mul-eq-mul_right a.base pos _ _ (omega (arith, total, ap (λ k. k * z.base) neck.full));
         greatest = λ v' h.
             le_of_mul-le-mul_right {k = a.base}
@@ -89,12 +89,12 @@ same_test false false there back = refl
 -- The reason of a flow is one of its rate and not of the base.
 pub reason_same : (r : Request) (a z : Rates) → 0 < a.base → 0 < z.base → SameRates r a z → (u : Input) (v : Output) → Used r u v
     → flow_reason r a u v ≡ flow_reason r z u v
-reason_same r a z posA posZ same u v is =
+reason_same r a z pos_a pos_z same u v is =
     let back = same_back r a z same in
     let met = same_test (at_demand r a u v) (at_demand r z u v)
-    (λ e. eq-eqb _ _ (met_same r a z posA same u v is (eqb-true _ _ e)))
-    (λ e. eq-eqb _ _ (met_same r z a posZ back u v is (eqb-true _ _ e))) in
+    (λ e. eq-eqb _ _ (met_same r a z pos_a same u v is (eqb-true _ _ e)))
+    (λ e. eq-eqb _ _ (met_same r z a pos_z back u v is (eqb-true _ _ e))) in
     let held = same_test (input_holds r a u v) (input_holds r z u v)
-    (λ e. holds_of_bottleneck r z u v (bottleneck_same r a z posA same u v is posZ (bottleneck_of_holds r a u v e)))
-    (λ e. holds_of_bottleneck r a u v (bottleneck_same r z a posZ back u v is posA (bottleneck_of_holds r z u v e))) in
+    (λ e. holds_of_bottleneck r z u v (bottleneck_same r a z pos_a same u v is pos_z (bottleneck_of_holds r a u v e)))
+    (λ e. holds_of_bottleneck r a u v (bottleneck_same r z a pos_z back u v is pos_a (bottleneck_of_holds r z u v e))) in
     ap₂ (λ b c. cond b 0 (cond c 1 2)) met held

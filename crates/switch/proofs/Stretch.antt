@@ -83,20 +83,20 @@ sought_part place {most = most} {xs = xs} {counts = counts} {c = c} few low high
     }
 
 -- In the stretch the numbers before `end` are the used ones.
-pub sought_stretch : {cause : Cause} (place : ℕ) {size most : ℕ} {xs : List ℕ} {isUsed : ℕ → Bool} {first end last c : ℕ}
+pub sought_stretch : {cause : Cause} (place : ℕ) {size most : ℕ} {xs : List ℕ} {is_used : ℕ → Bool} {first end last c : ℕ}
     → size ≤ 64
     → first ≤ end
     → end ≤ last
-    → ((k : ℕ) → first ≤ k → k < last → isUsed k ≡ ltb k end)
+    → ((k : ℕ) → first ≤ k → k < last → is_used k ≡ ltb k end)
     → (used : Bool)
     → FirstAbove most (cond used first end) (cond used end last) xs c
-    → Sought (table_over cause place size isUsed used most xs) first last c
+    → Sought (table_over cause place size is_used used most xs) first last c
 sought_stretch place {end = end} few low high split true f =
     sought_part place few (omega arith) high (λ k l h e. (l, ltb-true k end (sym (split k l h) ∙ e)))
     (λ k l h. split k l (omega arith) ∙ lt-ltb k end h) f
-sought_stretch place {isUsed = isUsed} {end = end} few low high split false f =
-    sought_part place {counts = λ k. not (isUsed k)} few low (omega arith)
-    (λ k l h e. (ltb-false k end (sym (split k l h) ∙ not_true (isUsed k) e), h))
+sought_stretch place {is_used = is_used} {end = end} few low high split false f =
+    sought_part place {counts = λ k. not (is_used k)} few low (omega arith)
+    (λ k l h e. (ltb-false k end (sym (split k l h) ∙ not_true (is_used k) e), h))
     (λ k l h. ap not (split k (omega arith) h ∙ le-ltb k end l)) f
 
 -- One more number that is no more than `most`.

@@ -105,8 +105,8 @@ module _ (r : Request) (w : Within r) where
     where
       go : used r (input_of c) (output_of c) ≡ true → demand_of r c ≤ 16_777_216
       go e =
-          let (below-m, below-n) = below_of_used r (input_of c) (output_of c) e in
-          subst (λ (k : ℕ). demand_of r k ≤ 16_777_216) (cell_of-ports c h) (w.demand (input_of c) (output_of c) below-m below-n)
+          let (below_m, below_n) = below_of_used r (input_of c) (output_of c) e in
+          subst (λ (k : ℕ). demand_of r k ≤ 16_777_216) (cell_of-ports c h) (w.demand (input_of c) (output_of c) below_m below_n)
 
   cells_silent : Silent (cells_not_zero r)
   cells_silent c h =

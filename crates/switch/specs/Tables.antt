@@ -15,11 +15,11 @@ sided false b = not b
 -- A table of so many numbers in words from `from` on: where a number counts, because it is used or because it is not, it
 -- may not be above `most`.
 abbrev pub table_over : Cause → ℕ → ℕ → (ℕ → Bool) → Bool → ℕ → List ℕ → Row
-table_over cause from size isUsed used most xs =
+table_over cause from size is_used used most xs =
     record {
       cause = cause;
       size = size;
-      offends = λ i. above (sided used (isUsed i)) most (get_or xs i 0);
+      offends = λ i. above (sided used (is_used i)) most (get_or xs i 0);
       place = λ i. from + i;
     }
 

@@ -50,7 +50,7 @@ sum_of_taken a b x p q e =
     omega arith
 
 module _ (start : ℕ) (v w : ℕ → ℕ) (k : ℕ) (below : k < 128) (v_below : (i : ℕ) → v i < 4_294_967_296)
-    (w-below : (i : ℕ) → w i < 4_294_967_296) (one : OneWord v w k) where
+    (w_below : (i : ℕ) → w i < 4_294_967_296) (one : OneWord v w k) where
   -- Sums up to the changed word agree; sums that it is in differ, however many equal words follow.
   together : (n : ℕ) → n ≤ k → running start v n ≡ running start w n
   together n h = running_same start v w n (λ i l. one.same i (λ e. omega arith))
@@ -64,7 +64,7 @@ module _ (start : ℕ) (v w : ℕ → ℕ) (k : ℕ) (below : k < 128) (v_below 
       go (inl here) before =
           let t : running start v n ≡ running start w n = together n (omega arith) in
           one.differs
-          (rw here at (word_of-taken (running start v n) (v n) (w n) (v_below n) (w-below n) (rw (← t) at e)))
+          (rw here at (word_of-taken (running start v n) (v n) (w n) (v_below n) (w_below n) (rw (← t) at e)))
       go (inr later) before =
           let t : v n ≡ w n = one.same n later in
           before (omega arith)

@@ -237,10 +237,10 @@ module _ (front : List ℕ) (k : ℕ) (e : length front ≡ 4 * k) (rest : List 
           let q : List ℕ = drop (4 * i) rest in
           let size : length p ≡ 4 * i = length-take-le (4 * i) rest (omega arith) in
           let room : 4 ≤ length q = simp length-drop (omega arith) in
-          let whole-size : length (front ++ p) ≡ 4 * (k + i) = simp length-append (omega arith) in
+          let whole_size : length (front ++ p) ≡ 4 * (k + i) = simp length-append (omega arith) in
           ap (λ (f : List ℕ). with_word (front ++ f) (k + i) w) (sym (take-append-drop (4 * i) rest))
           ∙ ap (λ (f : List ℕ). with_word f (k + i) w) (sym (append_assoc front p q))
-          ∙ with_word_after (front ++ p) (k + i) q w whole-size room
+          ∙ with_word_after (front ++ p) (k + i) q w whole_size room
           ∙ append_assoc front p (bytes_of w ++ drop 4 q)
           ∙ ap (λ (f : List ℕ). front ++ f)
           (sym (with_word_after p i q w size room) ∙ ap (λ (f : List ℕ). with_word f i w) (take-append-drop (4 * i) rest))

@@ -9,7 +9,7 @@ use lib.ListN.{length, get_or, set, take, drop, length-map}
 use lib.Seq.{drop-cons, ext_get_or}
 use Rattle.fairness.specs.Divisor.{euclid, gcd, gcd_of, divided, GcdOf}
 use Rattle.fairness.proofs.Divisors.{gcd_comm, gcd_of_is}
-use Rattle.fairness.proofs.LeastBase.{get_d_divided}
+use Rattle.fairness.proofs.LeastBase.{get_or-divided}
 
 -- The algorithm ends of itself, so that more steps than it needs change nothing.
 euclid_enough : (n k a b : ℕ) → b < n → b < k → euclid n a b ≡ euclid k a b
@@ -69,5 +69,5 @@ pub reduced_below_two : (g b : ℕ) (xs : List ℕ) → GcdOf b xs g → g < 2 �
 reduced_below_two g b xs common h = (
   same_below_two g b common.base h,
   ext_get_or 0 (divided g xs) xs (length-map xs (λ x. x / g))
-      (λ i l. get_d_divided xs g i ∙ same_below_two g (get_or xs i 0) (common.each i) h),
+      (λ i l. get_or-divided xs g i ∙ same_below_two g (get_or xs i 0) (common.each i) h),
 )

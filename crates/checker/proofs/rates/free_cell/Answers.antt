@@ -9,14 +9,14 @@ use Rattle.worked.specs.Worked.{below, free_row, cell_found}
 use Rattle.checker.proofs.rates.free_cell.Goals as goal
 
 module _ (m n : ℕ) where
-  cell-used : (u v : ℕ) → u < ports m → v < ports n → used_at m n (8 * u + v) ≡ true
-  cell-used u v hu hv =
+  cell_used : (u v : ℕ) → u < ports m → v < ports n → used_at m n (8 * u + v) ≡ true
+  cell_used u v hu hv =
       let r = request_of m n [] [] [] in
       used_cell_of_cell r (input u) (output v) (omega arith) (omega arith)
       ∙ used_of_below r (input u) (output v) (omega arith) (omega arith)
 
-  cell-unused : (k : ℕ) → k < 64 → (ports m ≤ k / 8) ⊎ (ports n ≤ k % 8) → used_at m n k ≡ false
-  cell-unused k h past =
+  cell_unused : (k : ℕ) → k < 64 → (ports m ≤ k / 8) ⊎ (ports n ≤ k % 8) → used_at m n k ≡ false
+  cell_unused k h past =
       let r = request_of m n [] [] [] in
       used_cell_of_ports r k h ∙ unused_of_past r (input_of k) (output_of k) (either past)
     where
@@ -32,7 +32,7 @@ tested : (m n : ℕ) (asked xs entering leaving : List ℕ) (u v cell : ℕ) (sa
 tested m n asked xs entering leaving u v cell said hu hv at by =
     let i : (input_of (8 * u + v)).0 ≡ u = omega arith in
     let o : (output_of (8 * u + v)).0 ≡ v = omega arith in
-    rw (cell-used m n u v hu hv, i, o, by, at)
+    rw (cell_used m n u v hu hv, i, o, by, at)
 
 pub loop-v-preserved : goal.loop-v-preserved
 loop-v-preserved c =
@@ -64,4 +64,4 @@ returns-after-loop-u c =
     let row = free_row args.m args.n args.asked.now args.numerators.now args.entering.now args.leaving.now in
     sym (ap cell_found (nothing_of_silent row
     (passed_on 64 c.loop-u.invariant.passed (omega arith)
-    (λ k l h. rw (cell-unused args.m args.n k h (inl (omega arith))))).none))
+    (λ k l h. rw (cell_unused args.m args.n k h (inl (omega arith))))).none))

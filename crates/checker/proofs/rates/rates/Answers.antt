@@ -10,7 +10,7 @@ use Rattle.worked.specs.declared.side.Weighed.{Weighed}
 use Rattle.checker.proofs.rates.rates.Goals as goal
 
 -- The rows, from what is worked out before them.
-rows-worked : (r : Request) (p : Plan) {asked : List ℕ} {inputs outputs : Weighed} → length p.numerators ≡ 64
+rows_worked : (r : Request) (p : Plan) {asked : List ℕ} {inputs outputs : Weighed} → length p.numerators ≡ 64
     → asked ≡ scaled 64 p.base r.demands
     → inputs ≡ inputs_weighed r.n r.inputs p.base p.numerators
     → outputs ≡ outputs_weighed r.m r.outputs p.base p.numerators
@@ -22,7 +22,7 @@ rows-worked : (r : Request) (p : Plan) {asked : List ℕ} {inputs outputs : Weig
     (row_verdict (reasons_row asked p.numerators inputs.levels p.reasons))))))
     ≡ rates_worked r p
 unfolding verdict_of
-rows-worked r p long a i o = rw (long, a, i, o, or_else_accepted)
+rows_worked r p long a i o = rw (long, a, i, o, or_else_accepted)
 
 pub returns : goal.returns
 returns c =
@@ -36,5 +36,5 @@ returns c =
     (c.or_else.ensures
     ∙ ap (or_else c.weigh_outputs-outputs.result.over)
     (c.or_else-last.ensures ∙ ap₂ or_else c.free_row-free.ensures c.reasons_row-wrong.ensures))))
-    ∙ rows-worked args.request args.plan (search rules) c.scale.ensures
+    ∙ rows_worked args.request args.plan (search rules) c.scale.ensures
     c.weigh_inputs-inputs.ensures c.weigh_outputs-outputs.ensures

@@ -7,17 +7,17 @@ use Rattle.worked.specs.Worked.{reason_by, reasons_row}
 use Rattle.checker.proofs.rates.reasons_row.Goals as goal
 
 -- A cell's row by the number of its input.
-offends-as-said : (asked xs entering reasons : List ℕ) (u v cell said : ℕ) → v < 8 → cell ≡ 8 * u + v
+offends_as_said : (asked xs entering reasons : List ℕ) (u v cell said : ℕ) → v < 8 → cell ≡ 8 * u + v
     → said ≡ reason_by (get_or asked cell 0) (get_or entering u 0) (get_or xs cell 0)
     → (reasons_row asked xs entering reasons).offends (8 * u + v) ≡ not (nat_eq (get_or reasons cell 0) said)
-offends-as-said asked xs entering reasons u v cell said low at by =
+offends_as_said asked xs entering reasons u v cell said low at by =
     let i : (8 * u + v) / 8 ≡ u = omega arith in
     rw (by, at, i)
 
 pub loop-v-preserved : goal.loop-v-preserved
 loop-v-preserved c =
     let args = c.args in
-    let test = offends-as-said args.asked.now args.numerators.now args.entering.now args.reasons.now c.loop-u.u c.loop-v.v
+    let test = offends_as_said args.asked.now args.numerators.now args.entering.now args.reasons.now c.loop-u.u c.loop-v.v
     c.cell-c.result c.reason_by.result (omega arith) c.cell-c.ensures c.reason_by.ensures in
     subst (Passed _) (omega arith)
     (passed_more c.loop-v.invariant (omega arith) (test ∙ ap not (eq-eqb _ _ c.if-reasons-i.false)))
@@ -25,7 +25,7 @@ loop-v-preserved c =
 pub returns-then-reasons-i : goal.returns-then-reasons-i
 returns-then-reasons-i c =
     let args = c.args in
-    let test = offends-as-said args.asked.now args.numerators.now args.entering.now args.reasons.now c.loop-u.u c.loop-v.v
+    let test = offends_as_said args.asked.now args.numerators.now args.entering.now args.reasons.now c.loop-u.u c.loop-v.v
     c.cell-c.result c.reason_by.result (omega arith) c.cell-c.ensures c.reason_by.ensures in
     c.refused.ensures
     ∙ ap (refusal WrongReason) c.cell-c.ensures

@@ -6,8 +6,8 @@ use Rattle.switch.specs.declared.verdict.Verdict.TheVariants.{Refused}
 use Rattle.codes.specs.Code.{Placed}
 use Rattle.export.proofs.code.code.Goals as goal
 
-place-fits : (v : Verdict) (x : Refusal) → Placed v → v ≡ Refused x → x.place < 4_294_967_296
-place-fits v x placed e = subst Placed e placed _ _ (refl, refl)
+place_fits : (v : Verdict) (x : Refusal) → Placed v → v ≡ Refused x → x.place < 4_294_967_296
+place_fits v x placed e = subst Placed e placed _ _ (refl, refl)
 
 pub packed-requires : goal.packed-requires
-packed-requires c = place-fits c.args.verdict c.in-Refused.refusal c.requires c.in-Refused.is
+packed-requires c = place_fits c.args.verdict c.in-Refused.refusal c.requires c.in-Refused.is

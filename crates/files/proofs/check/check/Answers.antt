@@ -7,10 +7,10 @@ use Rattle.switch.specs.declared.verdict.Verdict.TheVariants.{Refused}
 use Rattle.files.proofs.check.check.Goals as goal
 
 -- What the first row refuses, all rows refuse alike.
-refused-first : (row : Row) (rest : List Row) (v : Verdict) (x : Refusal) → v ≡ row_verdict row → v ≡ Refused x
+refused_first : (row : Row) (rest : List Row) (v : Verdict) (x : Refusal) → v ≡ row_verdict row → v ≡ Refused x
     → v ≡ verdict_of (row ∷ rest)
 unfolding verdict_of
-refused-first row rest v x e r = rw (sym e, r)
+refused_first row rest v x e r = rw (sym e, r)
 
 pub returns : goal.returns
-returns c = refused-first _ _ _ _ c.length_row-length.ensures c.in_default.is
+returns c = refused_first _ _ _ _ c.length_row-length.ensures c.in_default.is

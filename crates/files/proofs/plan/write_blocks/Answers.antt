@@ -12,9 +12,9 @@ use Rattle.files.proofs.plan.write_blocks.Goals as goal
 abbrev put : ℕ → List ℕ → List ℕ → List ℕ
 put n block buffer = take n buffer ++ (block ++ drop (n + 512) buffer)
 
-put-behind : (front block buffer : List ℕ) (n : ℕ) → length front ≡ n
+put_behind : (front block buffer : List ℕ) (n : ℕ) → length front ≡ n
     → put n block (front ++ drop n buffer) ≡ (front ++ block) ++ drop (n + 512) buffer
-put-behind front block buffer n e =
+put_behind front block buffer n e =
     rw (
       take_at front (drop n buffer) n e,
       ap (λ (k : ℕ). drop (k + 512) (front ++ drop n buffer)) (sym e),
@@ -26,8 +26,8 @@ put-behind front block buffer n e =
 both_behind : (a b c buffer : List ℕ) → length a ≡ 512 → length b ≡ 512
     → put 1024 c (put 512 b (a ++ drop 512 buffer)) ≡ (a ++ (b ++ c)) ++ drop 1536 buffer
 both_behind a b c buffer e f =
-    ap (put 1024 c) (put-behind a b buffer 512 e)
-    ∙ put-behind (a ++ b) c buffer 1024 (rw length-append (omega arith))
+    ap (put 1024 c) (put_behind a b buffer 512 e)
+    ∙ put_behind (a ++ b) c buffer 1024 (rw length-append (omega arith))
     ∙ ap (λ (x : List ℕ). x ++ drop 1536 buffer) (append_assoc a b c)
 
 pub returns : goal.returns

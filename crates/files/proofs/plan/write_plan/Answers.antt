@@ -28,9 +28,9 @@ returns-in-Accepted-clause-buffer_after c =
     let own = ap (λ (x : Planned). x.verdict) c.plan-answer.ensures.value in
     let asked = asked_to_write 1536 r buffer c.or_else-verdict.ensures own c.room_row-room.ensures in
     let accepted = sym asked ∙ c.in-Accepted.is in
-    let its-plan = ap (λ (x : Planned). x.plan) c.plan-answer.ensures.value ∙ plan_within r (room_of_accepted 1536 r buffer accepted).0 in
+    let its_plan = ap (λ (x : Planned). x.plan) c.plan-answer.ensures.value ∙ plan_within r (room_of_accepted 1536 r buffer accepted).0 in
     c.write_blocks.ensures
-    ∙ ap (λ (p : Plan). plan_file r p ++ drop 1536 buffer) its-plan
+    ∙ ap (λ (p : Plan). plan_file r p ++ drop 1536 buffer) its_plan
     ∙ sym (written_accepted 1536 (plan_file r (plan_of r)) r buffer accepted)
 
 pub returns-in_default-clause-value : goal.returns-in_default-clause-value

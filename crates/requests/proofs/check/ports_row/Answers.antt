@@ -11,9 +11,9 @@ row : ℕ → ℕ → Row
 row m n = ports_row (request_of m n [] [] [])
 
 -- After the first test failed, m has been passed.
-m-passed : (m n : ℕ) → outside m ≡ false → Passed (row m n) 1
+m_passed : (m n : ℕ) → outside m ≡ false → Passed (row m n) 1
 unfolding row
-m-passed m n e = passed_more (passed_none (row m n)) (omega arith) e
+m_passed m n e = passed_more (passed_none (row m n)) (omega arith) e
 
 pub returns-then-outside : goal.returns-then-outside
 unfolding row
@@ -25,11 +25,11 @@ pub returns-then-outside-2 : goal.returns-then-outside-2
 unfolding row
 returns-then-outside-2 c =
     c.refused-then-outside-2.ensures
-    ∙ sym (row_refuses (m-passed c.args.m c.args.n (sym c.outside.ensures ∙ c.if-outside.false)) (omega arith)
+    ∙ sym (row_refuses (m_passed c.args.m c.args.n (sym c.outside.ensures ∙ c.if-outside.false)) (omega arith)
     (sym c.outside-2.ensures ∙ c.if-outside-2.true))
 
 pub returns : goal.returns
 unfolding row
 returns c =
-    sym (row_accepts (passed_more (m-passed c.args.m c.args.n (sym c.outside.ensures ∙ c.if-outside.false)) (omega arith)
+    sym (row_accepts (passed_more (m_passed c.args.m c.args.n (sym c.outside.ensures ∙ c.if-outside.false)) (omega arith)
     (sym c.outside-2.ensures ∙ c.if-outside-2.false)) (omega arith))
