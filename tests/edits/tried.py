@@ -3,8 +3,8 @@
 
 usage: tests/edits/tried.py LOGS [CRATE..]
 
-rt ci tries the edits too and tells the first refusal of each. Here the whole of it is wanted: LOGS/CRATE/EDIT/.log. Two edits are
-tried beside each other, each in a copy of its own, and every crate's edits in the copy where the crate was tried before.
+rt ci tries the edits too and tells the first refusal of each. Here the whole of it is wanted: LOGS/CRATE/EDIT/.log. As many edits are
+tried beside each other as there are processors, but at most four; each crate has a copy of all crates for the while.
 """
 import os
 import shutil
@@ -14,7 +14,7 @@ import tempfile
 from concurrent.futures import ThreadPoolExecutor
 
 PARTS = ("src", "specs", "proofs")
-COPIES = 2
+COPIES = min(4, os.cpu_count() or 1)
 
 
 def edits(crate):
@@ -52,7 +52,7 @@ def tried(top, logs, crate):
     for name in edits(crate):
         texts = changed(f"crates/{crate}/must-fail/{name}.edit", f"crates/{crate}")
         put(folder, texts)
-        said = subprocess.run(["rt", "check"], cwd=folder, stdin=subprocess.DEVNULL, stdout=subprocess.PIPE, stderr=subprocess.STDOUT)
+        said = subprocess.run(["rt", "check", "--jobs", "1"], cwd=folder, stdin=subprocess.DEVNULL, stdout=subprocess.PIPE, stderr=subprocess.STDOUT)
         put(folder, {path: open(f"crates/{crate}/{path}", encoding="utf-8").read() for path in texts})
         os.makedirs(f"{logs}/{crate}/{name}", exist_ok=True)
         with open(f"{logs}/{crate}/{name}/.log", "wb") as file:
@@ -73,7 +73,7 @@ def copied(work, number):
 
 def main(logs, names):
     crates = [it for it in names or sorted(os.listdir("crates")) if edits(it)]
-    # The dearest crates first, so that the two copies are done at about the same time.
+    # The dearest crates first, so that the copies are done at about the same time.
     crates.sort(key=lambda it: -len(edits(it)) * sum(len(files) for _, _, files in os.walk(f"crates/{it}/src")))
     with tempfile.TemporaryDirectory() as work:
         free = [copied(work, number) for number in range(COPIES)]
