@@ -1,8 +1,8 @@
+-- The walk has come to a cell of the limit, or to its end.
 use Rattle.std.proofs.Common.{◌-◌}
 use Rattle.planner.proofs.Halting.{Walked}
 use Rattle.planner.proofs.shut.halt_all.Given as goal
 
--- The walk has come to a cell of the limit, or to its end.
 abbrev pub invariant-loop-cell : goal.invariant-loop-cell
 invariant-loop-cell l =
     Walked l.cards l.limit l.high l.weights l.initial.stages l.initial.left l.initial.parts l.cell l.stages l.left l.parts

@@ -1,3 +1,4 @@
+-- The limits before this one are multiplied, and the others are as they were.
 use Rattle.planner.specs.Tables.{Scaled}
 use Rattle.planner.proofs.shut.scale.Given as goal
 

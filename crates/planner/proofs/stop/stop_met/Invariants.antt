@@ -1,10 +1,10 @@
+-- What the walk has done to the cells before this one.
 use Rattle.std.proofs.Common.{◌≡◌}
 use Rattle.fairness.specs.Filling.{some}
 use Rattle.planner.specs.Tables.{Swept}
 use Rattle.planner.specs.Engine.{met_at, met_rate, met_weight, met_stage, Light}
 use Rattle.planner.proofs.stop.stop_met.Given as goal
 
--- What the walk has done to the cells before this one.
 abbrev pub invariant-loop-c : goal.invariant-loop-c
 invariant-loop-c l =
     record {
