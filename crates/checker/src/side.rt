@@ -19,7 +19,7 @@ pub fn scale(table: &[u32], base: u64, wide: &mut [u64])
     ensures { wide.new ≡ scaled (length wide.old) base table.now }
 {
     for i in 0..wide.len() {
-        wide[i] = times(entry(table, i as u64), base);
+        wide[i] = times(entry(table, i as u64, 0), base);
     }
 }
 

@@ -21,11 +21,11 @@ fn request_word(m: u32, n: u32, inputs: &[u32], outputs: &[u32], demands: &[u32]
     } else if i < 3 {
         n
     } else if i < 11 {
-        entry(inputs, i - 3)
+        entry(inputs, i - 3, 0)
     } else if i < 19 {
-        entry(outputs, i - 11)
+        entry(outputs, i - 11, 0)
     } else if i < 83 {
-        entry(demands, i - 19)
+        entry(demands, i - 19, 0)
     } else {
         0
     }

@@ -20,9 +20,9 @@ fn capacity(inputs: &[u32], outputs: &[u32], limit: u64) -> u64
     ensures { result ≡ capacity_of (request_of 0 0 inputs.now outputs.now []) limit }
 {
     if limit < 8 {
-        entry(inputs, limit) as u64
+        entry(inputs, limit, 0) as u64
     } else {
-        entry(outputs, limit - 8) as u64
+        entry(outputs, limit - 8, 0) as u64
     }
 }
 

@@ -1,85 +1,76 @@
 // Walks over a request's tables: each looks for the first number above a limit that only used, or only unused, ports or
 // cells have. They serve rows 5 to 7 of the refusal table.
-ghost use Rattle.std.specs.Prelude.{◌≡◌, cond};
+ghost use Rattle.std.specs.Prelude.{◌≡◌, cond, ltb, position};
 ghost use Rattle.switch.specs.Rows.{row_verdict};
 ghost use Rattle.switch.specs.RequestRows.{outside};
-ghost use Rattle.switch.specs.Tables.{FirstAbove, ports_over, cells_over};
+ghost use Rattle.switch.specs.Tables.{FoundAbove, ports_over, cells_over};
 
-use switch::number::lesser;
 use switch::port::{Input, used_end};
 use switch::request::Request;
 use switch::verdict::{Cause, Verdict, refused};
+
+// What a row asks of a table's numbers: none of those that are used, or of those that are not, may be more than `most`.
+#[derive(Clone, Copy)]
+pub struct Bound {
+    pub cause: Cause,
+    pub used: bool,
+    pub most: u32,
+}
 
 // A number of ports outside the limits.
 pub fn outside(count: u32) -> bool
     ensures { result ≡ outside count }
 {
-    !((1 <= count) & (count <= Request::PORTS))
+    !(1..=Request::PORTS).contains(&count)
 }
 
-// The first of the entries from `first` on and before `last` that is more than `most`, or 64. Past its end a table counts as
-// 0, which is never more.
-fn first_above(most: u32, first: u64, last: u64, table: &[u32]) -> u64
-    ensures { FirstAbove most first last table.now result }
+fn above(most: u32, part: &[u32]) -> Option<usize>
+    ensures { result ≡ position (λ x. ltb most x) part.now }
 {
-    let end = lesser(last, table.len() as u64);
-    for c in first..end {
-        if most < table[c as usize] {
-            return c;
-        }
-    }
-    64
+    part.iter().position(|x| most < *x)
+}
+
+// The first of the entries from `first` on and before `last` that is more than `most`. Past its end a table counts as 0, which
+// is never more.
+fn first_above(most: u32, first: u64, last: u64, table: &[u32]) -> Option<u64>
+    ensures { FoundAbove most first last table.now result }
+{
+    let end = last.min(table.len() as u64);
+    let part = table.get(first as usize..end as usize)?;
+    let i = above(most, part)?;
+    Some(first + i as u64)
 }
 
 // The same for a stretch of a table in which the entries before `end` are the used ones: only those are looked at of which
 // the row speaks.
-fn first_over(used: bool, most: u32, first: u64, end: u64, last: u64, table: &[u32]) -> u64
-    ensures { FirstAbove most (cond used first end) (cond used end last) table.now result }
+fn first_over(bound: Bound, first: u64, end: u64, last: u64, table: &[u32]) -> Option<u64>
+    ensures { FoundAbove bound.most (cond bound.used first end) (cond bound.used end last) table.now result }
 {
-    if used {
-        first_above(most, first, end, table)
+    if bound.used {
+        first_above(bound.most, first, end, table)
     } else {
-        first_above(most, end, last, table)
+        first_above(bound.most, end, last, table)
     }
 }
 
 // One side's ports, in words from `from` on; the first `count` are used.
-pub fn ports_over(
-    cause: Cause,
-    from: u32,
-    used: bool,
-    count: u32,
-    most: u32,
-    table: &[u32; 8],
-) -> Verdict
-    ensures { result ≡ row_verdict (ports_over cause from used count most table.now) }
+pub fn ports_over(bound: Bound, from: u32, count: u32, table: &[u32; 8]) -> Verdict
+    ensures { result ≡ row_verdict (ports_over bound.cause from bound.used count bound.most table.now) }
 {
-    let end = lesser(count as u64, 8);
-    let i = first_over(used, most, 0, end, 8, table);
-    if i < 8 {
-        return refused(cause, from as u64 + i);
+    match first_over(bound, 0, u64::from(count.min(8)), 8, table) {
+        Some(i) => refused(bound.cause, u64::from(from) + i),
+        None => Verdict::Accepted,
     }
-    Verdict::Accepted
 }
 
-// The cells, in words from `from` on, input by input.
-pub fn cells_over(
-    cause: Cause,
-    from: u32,
-    used: bool,
-    m: u32,
-    n: u32,
-    most: u32,
-    table: &[u32; 64],
-) -> Verdict
-    ensures { result ≡ row_verdict (cells_over cause from used m n most table.now) }
+// The cells, in words from 19 on, input by input.
+pub fn cells_over(bound: Bound, m: u32, n: u32, table: &[u32; 64]) -> Verdict
+    ensures { result ≡ row_verdict (cells_over bound.cause 19 bound.used m n bound.most table.now) }
 {
     for u in 0..8 {
-        let first = 8 * u as u64;
-        let end = used_end(m, n, Input(u));
-        let c = first_over(used, most, first, end, first + 8, table);
-        if c < 64 {
-            return refused(cause, from as u64 + c);
+        let first = 8 * u64::from(u);
+        if let Some(c) = first_over(bound, first, used_end(m, n, Input(u)), first + 8, table) {
+            return refused(bound.cause, 19 + c);
         }
     }
     Verdict::Accepted

@@ -67,7 +67,7 @@ fn fill_row(
     let from = 8 * (u as u64);
     for v in 0..ports(n) {
         let cell = from + v as u64;
-        let asked = times(entry(demands, cell), base);
+        let asked = times(entry(demands, cell, 0), base);
         table[cell as usize] = reason_of(full, most, asked, numerator(numerators, cell));
     }
 }
@@ -86,7 +86,7 @@ pub fn reasons(
     let mut table = [0u8; 64];
     for u in 0..ports(m) {
         let input = input_port(n, numerators, Input(u));
-        let capacity = entry(inputs, u as u64);
+        let capacity = entry(inputs, u as u64, 0);
         fill_row(n, input, capacity, demands, base, numerators, u, &mut table);
     }
     table

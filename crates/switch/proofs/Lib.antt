@@ -2,6 +2,7 @@
 pub mod Tests
 pub mod Cells
 pub mod Search
+pub mod Above
 pub mod Stretch
 pub mod Rows
 pub mod Rising

@@ -307,3 +307,13 @@ gives_named rows Q each k p g =
     let among : Memᴰ row rows = subst (Memᴰ row) (sym a.split) (mathlib.Core.List.Memᴰ.append_right a.before (mathlib.Core.List.Memᴰ.head refl)) in
     let found = each row among a.offender a.first.below a.first.here in
     subst (λ (n : ℕ). Q n p) number (subst (Q (number_of row.cause)) (sym a.place) found)
+
+-- A row in two parts whose first part has been asked with `?`: a refusal of that part is the row's, and after an acceptance the
+-- second part decides.
+pub joined_left : (a b : Row) {x : Verdict} {r : Refusal} → a.cause ≡ b.cause → x ≡ row_verdict a → x ≡ Refused r
+    → Refused r ≡ row_verdict (joined a b)
+joined_left a b same h e = sym (joined_verdict a b same ∙ ap (λ v. or_else v (row_verdict b)) (sym h ∙ e))
+
+pub joined_right : (a b : Row) {x y : Verdict} → a.cause ≡ b.cause → x ≡ row_verdict a → x ≡ Accepted → y ≡ row_verdict b
+    → y ≡ row_verdict (joined a b)
+joined_right a b same h e k = k ∙ sym (joined_verdict a b same ∙ ap (λ v. or_else v (row_verdict b)) (sym h ∙ e))

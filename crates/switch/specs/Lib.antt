@@ -9,8 +9,10 @@ pub mod Planned
 pub mod Shown
 pub mod Entitlement
 pub mod Values
+pub mod Halves
 pub mod Numbering
 pub mod Rows
+pub mod Heard
 pub mod Given
 pub mod RequestRows
 pub mod Fault

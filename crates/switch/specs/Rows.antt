@@ -1,6 +1,7 @@
 -- A row of the refusal table, as a test over its candidates, and the verdict that a list of rows gives.
 use Rattle.std.specs.Prelude.{ℕ, zero, suc, ◌+◌, ◌-◌, Bool, true, false, cond, List, [], ◌∷◌, ltb}
 use Rattle.switch.specs.declared.verdict.Cause.{Cause}
+use Rattle.switch.specs.declared.verdict.Refusal.{Refusal}
 use Rattle.switch.specs.declared.verdict.Verdict.{Verdict}
 use Rattle.switch.specs.declared.verdict.Verdict.TheVariants.{Accepted, Refused}
 
@@ -36,7 +37,10 @@ first_from (suc k) i test = elim (test i) [ true ↦ at i | false ↦ first_from
 abbrev pub first_of : Row → Found
 first_of row = first_from row.size 0 row.offends
 
--- A verdict that refuses, for a cause and at a place.
+-- A verdict that refuses, by a refusal; and for a cause and at a place.
+abbrev pub refused_by : Refusal → Verdict
+refused_by r = Refused r
+
 abbrev pub refusal : Cause → ℕ → Verdict
 refusal c p = Refused (record { cause = c; place = p })
 

@@ -1,6 +1,7 @@
 -- The parts of rows 5 to 7 as a program walks them: one side's ports, or the cells, with one limit for those that are
 -- used or for those that are not. The rows of a request are made of such parts.
-use Rattle.std.specs.Prelude.{ℕ, ◌+◌, ◌*◌, ◌≤◌, ◌<◌, min, Bool, true, false, cond, not, ◌&&◌, List, ltb, get_or}
+use Rattle.std.specs.Prelude.{ℕ, ◌+◌, ◌*◌, ◌≤◌, ◌<◌, min, Bool, true, false, cond, not, ◌&&◌, List, ltb, get_or, Option}
+use Rattle.std.specs.declared.option.Option.TheVariants.{Some, None}
 use Rattle.switch.specs.Cells.{input_of, output_of}
 use Rattle.switch.specs.Rows.{Row}
 use Rattle.switch.specs.RequestRows.{above}
@@ -39,6 +40,12 @@ used_end m n u = 8 * u + cond (ltb u m) (min n 8) 0
 pub record FirstAbove (most first last : ℕ) (xs : List ℕ) (c : ℕ) : Type 0 where
   pub earlier : (k : ℕ) → first ≤ k → k < last → k < c → get_or xs k 0 ≤ most
   pub here : c < 64 → (first ≤ c) × (c < last) × (most < get_or xs c 0)
+
+-- What a search for it answers: the first that is above, or nothing if none is.
+abbrev pub FoundAbove : ℕ → ℕ → ℕ → List ℕ → Option ℕ → Type 0
+FoundAbove most first last xs None = (k : ℕ) → first ≤ k → k < last → get_or xs k 0 ≤ most
+FoundAbove most first last xs (Some c) =
+    (first ≤ c) × (c < last) × (most < get_or xs c 0) × ((k : ℕ) → first ≤ k → k < c → get_or xs k 0 ≤ most)
 
 -- The 64 cells.
 abbrev pub cells_over : Cause → ℕ → Bool → ℕ → ℕ → ℕ → List ℕ → Row

@@ -1,9 +1,9 @@
-// Reading a table past its end gives 0, as unused ports and cells hold 0.
+// Reading a table past its end, where unused ports and cells would stand.
 ghost use Rattle.std.specs.Prelude.{◌≡◌, get_or};
 
-pub fn entry(table: &[u32], i: u64) -> u32
-    ensures { result ≡ get_or table.now i 0 }
+// Entry `i`, or `none` past the last.
+pub fn entry<T: Copy>(table: &[T], i: u64, none: T) -> T
+    ensures { result ≡ get_or table.now i none }
 {
-    let i = i as usize;
-    if i < table.len() { table[i] } else { 0 }
+    table.get(i as usize).copied().unwrap_or(none)
 }

@@ -2,7 +2,6 @@
 #![tactic(auto)]
 
 pub mod entry;
-pub mod number;
 pub mod plan;
 pub mod port;
 pub mod request;

@@ -1,6 +1,7 @@
 // A plan: one exact rate, a numerator over the plan's base, and one reason for each flow; and what planning answers.
 ghost use Rattle.std.specs.Prelude.{◌≡◌};
 ghost use Rattle.switch.specs.Values.{empty_plan};
+ghost use Rattle.switch.specs.Halves.{half_number};
 
 use crate::verdict::Verdict;
 
@@ -22,9 +23,24 @@ impl Plan {
     {
         Plan {
             base: Plan::LEAST_BASE,
-            numerators: [0u64; 64],
-            reasons: [0u8; 64],
+            numerators: [0; 64],
+            reasons: [0; 64],
         }
+    }
+}
+
+// The halves of a plan, as the two blocks of its file have them: inputs 0 to 3, and inputs 4 to 7.
+#[derive(Clone, Copy, Debug, PartialEq, Eq)]
+pub enum Half {
+    First,
+    Second,
+}
+
+impl Half {
+    pub fn number(self) -> u32
+        ensures { result ≡ half_number self }
+    {
+        self as u32
     }
 }
 

@@ -1,36 +1,77 @@
 // Ports and cells: an input's number and an output's number are two types, so that an exchange of them is refused.
-ghost use Rattle.std.specs.Prelude.{◌≡◌};
-ghost use Rattle.switch.specs.Cells.{cell_of, input_of, output_of, input_limit, output_limit};
+ghost use Rattle.std.specs.Prelude.{◌≡◌, ℕ};
+ghost use Rattle.switch.specs.Cells.{input, output, cell_of, input_of, output_of, input_limit, output_limit};
 ghost use Rattle.switch.specs.Tables.{used_end};
 
-use crate::number::lesser;
-
-#[derive(Clone, Copy)]
+#[derive(Clone, Copy, Debug, PartialEq, Eq)]
 pub struct Input(pub u32);
 
-#[derive(Clone, Copy)]
+#[derive(Clone, Copy, Debug, PartialEq, Eq)]
 pub struct Output(pub u32);
+
+// One end of a flow, an input or an output: what the walks over ports and over a port's flows need to know of it.
+pub trait End: Copy {
+    ghost numbered: { ℕ → Self };
+
+    // The cell of the flow between this port and port k of the other side.
+    ghost flow: { Self → ℕ → ℕ };
+
+    fn numbered(k: u32) -> Self
+        ensures { result ≡ numbered k };
+
+    fn flow(self, k: u32) -> u64
+        ensures { result ≡ flow self k };
+}
+
+impl End for Input {
+    ghost numbered = { input };
+
+    ghost flow = { λ u k. cell_of u (output k) };
+
+    fn numbered(k: u32) -> Input {
+        Input(k)
+    }
+
+    fn flow(self, k: u32) -> u64 {
+        cell(self, Output(k))
+    }
+}
+
+impl End for Output {
+    ghost numbered = { output };
+
+    ghost flow = { λ v k. cell_of (input k) v };
+
+    fn numbered(k: u32) -> Output {
+        Output(k)
+    }
+
+    fn flow(self, k: u32) -> u64 {
+        cell(Input(k), self)
+    }
+}
 
 // The cell of the flow from `u` to `v`.
 pub fn cell(u: Input, v: Output) -> u64
     ensures { result ≡ cell_of u v }
 {
-    8 * (u.0 as u64) + (v.0 as u64)
+    8 * u64::from(u.0) + u64::from(v.0)
 }
 
 // The end of an input's used cells, which are the first of its eight.
 pub fn used_end(m: u32, n: u32, u: Input) -> u64
     ensures { result ≡ used_end m n u.0 }
 {
-    let from = 8 * (u.0 as u64);
+    let from = 8 * u64::from(u.0);
     if m <= u.0 {
         return from;
     }
-    from + lesser(n as u64, 8)
+    from + u64::from(n.min(8))
 }
 
 impl Input {
-    // The input of a cell. A number above 63 is an unused cell: its input is 8, which no switch has.
+    // The input of a cell. A number above 63 is an unused cell: its input is 8, which no switch has. (No `Option`: what is promised
+    // of this call is an answer to every number.)
     pub fn of(cell: u64) -> Self
         ensures { result ≡ input_of cell }
     {
@@ -45,8 +86,7 @@ impl Input {
     pub fn limit(self) -> u64
         ensures { result ≡ input_limit self }
     {
-        let u = self.0;
-        u as u64
+        u64::from(self.0)
     }
 }
 
@@ -62,7 +102,6 @@ impl Output {
     pub fn limit(self) -> u64
         ensures { result ≡ output_limit self }
     {
-        let v = self.0;
-        8 + (v as u64)
+        8 + u64::from(self.0)
     }
 }

@@ -28,16 +28,16 @@ impl Request {
         Request {
             m: 0,
             n: 0,
-            inputs: [0u32; 8],
-            outputs: [0u32; 8],
-            demands: [0u32; 64],
+            inputs: [0; 8],
+            outputs: [0; 8],
+            demands: [0; 64],
         }
     }
 
     // What the flow of a cell asks for: 0 where a number above 63 is no cell.
-    pub fn demand(self, cell: u64) -> u32
-        ensures { result ≡ demand_of self cell }
+    pub fn demand(&self, cell: u64) -> u32
+        ensures { result ≡ demand_of self.now cell }
     {
-        entry(&self.demands, cell)
+        entry(&self.demands, cell, 0)
     }
 }

@@ -1,35 +1,50 @@
 // A verdict: acceptance, or the refusal together with its place. A cause is a row of the refusal table.
 ghost use Rattle.std.specs.Prelude.{◌≡◌};
 ghost use Rattle.switch.specs.Numbering.{number_of};
-ghost use Rattle.switch.specs.Rows.{refusal, or_else};
+ghost use Rattle.switch.specs.Rows.{refusal, refused_by, or_else};
+ghost use Rattle.switch.specs.Heard.{goes_on};
 
-#[derive(Clone, Copy)]
+use std::fmt;
+use std::ops::{ControlFlow, FromResidual, Try};
+
+// A row's number in the refusal table stands beside its cause.
+#[derive(Clone, Copy, Debug, PartialEq, Eq)]
 pub enum Cause {
-    Length,
-    Check,
-    Kind,
-    Ports,
-    Capacity,
-    Demand,
-    NotZero,
-    Base,
-    BaseDiffers,
-    ReasonRange,
-    AboveDemand,
-    InputOver,
-    OutputOver,
-    NoBottleneck,
-    WrongReason,
-    Room,
+    Length = 1,
+    Check = 2,
+    Kind = 3,
+    Ports = 4,
+    Capacity = 5,
+    Demand = 6,
+    NotZero = 7,
+    Base = 8,
+    BaseDiffers = 9,
+    ReasonRange = 10,
+    AboveDemand = 11,
+    InputOver = 12,
+    OutputOver = 13,
+    NoBottleneck = 14,
+    WrongReason = 15,
+    Room = 16,
 }
 
-#[derive(Clone, Copy)]
+impl Cause {
+    // The row's number in the refusal table.
+    pub fn number(self) -> u32
+        ensures { result ≡ number_of self }
+    {
+        self as u32
+    }
+}
+
+#[derive(Clone, Copy, Debug, PartialEq, Eq)]
 pub struct Refusal {
     pub cause: Cause,
     pub place: u64,
 }
 
-#[derive(Clone, Copy)]
+// It has the shape of a `Result`, but document 01 fixes this form; `?` serves it all the same.
+#[derive(Clone, Copy, Debug, PartialEq, Eq)]
 pub enum Verdict {
     Accepted,
     Refused(Refusal),
@@ -47,35 +62,50 @@ impl Verdict {
     pub fn or_else(self, next: Verdict) -> Verdict
         ensures { result ≡ or_else self next }
     {
-        match self {
-            Verdict::Accepted => next,
-            Verdict::Refused(_) => self,
-        }
+        self?;
+        next
     }
 }
 
-impl Cause {
-    // The row's number in the refusal table.
-    pub fn number(self) -> u32
-        ensures { result ≡ number_of self }
-    {
+// `row?;` leaves a function with the row's refusal, and goes on if the row accepts.
+impl Try for Verdict {
+    type Output = ();
+
+    type Residual = Refusal;
+
+    ghost branch_gives = { goes_on };
+
+    fn branch(self) -> ControlFlow<Refusal, ()> {
         match self {
-            Cause::Length => 1,
-            Cause::Check => 2,
-            Cause::Kind => 3,
-            Cause::Ports => 4,
-            Cause::Capacity => 5,
-            Cause::Demand => 6,
-            Cause::NotZero => 7,
-            Cause::Base => 8,
-            Cause::BaseDiffers => 9,
-            Cause::ReasonRange => 10,
-            Cause::AboveDemand => 11,
-            Cause::InputOver => 12,
-            Cause::OutputOver => 13,
-            Cause::NoBottleneck => 14,
-            Cause::WrongReason => 15,
-            Cause::Room => 16,
+            Verdict::Accepted => ControlFlow::Continue(()),
+            Verdict::Refused(refusal) => ControlFlow::Break(refusal),
+        }
+    }
+
+    fn from_output(_output: ()) -> Verdict {
+        Verdict::Accepted
+    }
+}
+
+impl FromResidual<Refusal> for Verdict {
+    ghost from_residual_gives = { λ refusal verdict. verdict ≡ refused_by refusal };
+
+    fn from_residual(refusal: Refusal) -> Verdict {
+        Verdict::Refused(refusal)
+    }
+}
+
+impl fmt::Display for Refusal {
+    fn fmt<W: fmt::Write>(&self, f: &mut fmt::Formatter<W>) -> fmt::Result {
+        write!(f, "refused {} {}", self.cause.number(), self.place)
+    }
+}
+
+impl fmt::Display for Verdict {
+    fn fmt<W: fmt::Write>(&self, f: &mut fmt::Formatter<W>) -> fmt::Result {
+        match self {
+            Verdict::Accepted => f.write_str("accepted"),
+            Verdict::Refused(refusal) => write!(f, "{refusal}"),
         }
     }
 }
