@@ -32,12 +32,13 @@ module _ (most first last : ℕ) {end : ℕ} (xs : List ℕ) {part : List ℕ} (
   pub above_found : {found : Option ℕ} → position (λ x. ltb most x) part ≡ found → FoundAbove most first last xs (option_map (λ i. first + i) found)
   above_found {found = None} none = λ k l h. passed k l h (λ inside. none_passes (λ x. ltb most x) part 0 none (k - first) (omega arith))
   above_found {found = Some i} some =
-      let (inside, here, before) = position-Some (λ x. ltb most x) part i 0 some in
-      (omega arith,
-      omega arith,
-      subst (λ x. most < x) (read (first + i) (omega arith) (omega arith))
-      (ltb-true most (get_or part (first + i - first) 0) (subst (λ j. ltb most (get_or part j 0) ≡ true) (omega arith) here)),
-      λ k l less. passed k l (omega arith) (λ _. before (k - first) (omega arith)))
+      let (inside, here, before) = position-Some (λ x. ltb most x) part i 0 some in (
+        omega arith,
+        omega arith,
+        subst (λ x. most < x) (read (first + i) (omega arith) (omega arith))
+            (ltb-true most (get_or part (first + i - first) 0) (subst (λ j. ltb most (get_or part j 0) ≡ true) (omega arith) here)),
+        λ k l less. passed k l (omega arith) (λ _. before (k - first) (omega arith)),
+      )
 
 -- The same of the entry's number, with 64 for nothing.
 abbrev pub place_of : Option ℕ → ℕ
@@ -49,3 +50,8 @@ pub first_of_found : {most first last : ℕ} {xs : List ℕ} (found : Option ℕ
 first_of_found None f = record { earlier = λ k l h _. f k l h; here = λ h. let z : 64 < 64 = h in absurd (omega arith) }
 first_of_found (Some c) (low, high, above, before) =
     record { earlier = λ k l _ less. before k l less; here = λ _. (low, high, above) }
+
+-- A stretch's used entries and its others both end no later than the stretch.
+pub within_stretch : (used : Bool) {end last : ℕ} → end ≤ last → cond used end last ≤ last
+within_stretch true h = h
+within_stretch false h = omega arith
