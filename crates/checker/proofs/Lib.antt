@@ -1,4 +1,4 @@
 -- What follows from how the checker works its rows out.
-pub mod Weighed
-pub mod Unused
+pub mod Found
+pub mod Sides
 pub mod Judged

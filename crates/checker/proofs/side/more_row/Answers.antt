@@ -1,11 +1,8 @@
--- A number that is more than it may be is the row's first offender, and after the last there is none.
-use Rattle.std.proofs.Common.{sym, ◌∙◌, lt-ltb, arith}
-use Rattle.switch.proofs.Search.{row_refuses, row_accepts}
+-- The search finds the row's first offender.
+use Rattle.std.proofs.Common.{◌≡◌, ◌∙◌}
+use Rattle.worked.specs.Worked.{more_row}
+use Rattle.checker.proofs.Found.{found_row, position_finds}
 use Rattle.checker.proofs.side.more_row.Goals as goal
 
-pub returns-then-most-i : goal.returns-then-most-i
-returns-then-most-i c =
-    c.refused.ensures ∙ sym (row_refuses c.loop-i.invariant (omega arith) (lt-ltb _ _ c.if-most-i.true))
-
 pub returns : goal.returns
-returns c = sym (row_accepts c.loop-i.invariant (omega arith))
+returns g c = let m = c.map.ensures in let r = c.more.ensures in ?
