@@ -1,5 +1,5 @@
 -- A part of a table, searched for its first number above a limit. Past its end a table counts as 0, which is above none.
-use Rattle.std.proofs.Common.{ℕ, Bool, ◌≡◌, refl, sym, ◌∙◌, ap, cond, ◌+◌, ◌-◌, ◌<◌, ◌≤◌, length, min, true, false, true≢false, ltb, List, inl, inr, ltb-true, ltb-false, subst, arith}
+use Rattle.std.proofs.Common.{ℕ, Bool, ◌≡◌, cond, ◌+◌, ◌-◌, ◌<◌, ◌≤◌, length, min, true, false, ltb, List, inl, inr, ltb-true, ltb-false, subst, arith}
 use Rattle.std.specs.Prelude.{get_or, position, Option}
 use Rattle.std.specs.Option.{option_map}
 use Rattle.std.specs.List.{position_or_len, slice_range}
