@@ -7,7 +7,6 @@ use native.Mathlib.Nat.{not-suc-le-zero}
 use native.Mathlib.Omega.{arith}
 use lib.ListN.{length, get_or, set, length-set}
 use lib.Seq.{get_or-set_same, get_or-set_other}
-use Rattle.laws.specs.Lists.{list}
 use Rattle.laws.proofs.Lists.{list_is, list_same}
 use Rattle.laws.proofs.Search.{eq_or_not}
 use Rattle.switch.specs.Rows.{row_verdict}

@@ -4,11 +4,11 @@ ghost use Rattle.checker.specs.Found.{refusal_of};
 
 use switch::verdict::{Cause, Verdict, refused};
 
-pub fn refused_if(cause: Cause, found: Option<u64>) -> Verdict
+pub fn refused_if(cause: Cause, found: Option<usize>) -> Verdict
     ensures { result ≡ refusal_of cause found }
 {
     match found {
-        Some(place) => refused(cause, place),
+        Some(place) => refused(cause, place as u64),
         None => Verdict::Accepted,
     }
 }

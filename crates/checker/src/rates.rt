@@ -13,12 +13,18 @@ use switch::port::{Input, Output, cell};
 use switch::request::Request;
 use switch::verdict::{Cause, Verdict, refused};
 
-// Row 10: OUTPUT is the largest reason.
+// The first cell whose reason is none: OUTPUT is the largest.
+fn beyond(reasons: &[u8; 64]) -> Option<usize>
+    ensures { result ≡ position (λ reason. ltb 2 reason) reasons.now }
+{
+    reasons.iter().position(|reason| OUTPUT < *reason)
+}
+
+// Row 10.
 fn range_row(reasons: &[u8; 64]) -> Verdict
     ensures { result ≡ row_verdict (range_worked reasons.now) }
 {
-    let beyond = reasons.iter().position(|reason| OUTPUT < *reason);
-    refused_if(Cause::ReasonRange, beyond.map(|c| c as u64))
+    refused_if(Cause::ReasonRange, beyond(reasons))
 }
 
 // A flow of numerator `x` is below its demand, and below the levels from which on its ports hold flows back.
@@ -55,16 +61,20 @@ struct Flows<'a> {
 impl Flows<'_> {
     // The search for row 14: the first flow that is below its demand and has no bottleneck. The walk over the outputs of the
     // walk over the inputs is left with the cell.
-    fn free_cell(&self) -> Option<u64>
+    fn free_cell(&self) -> Option<usize>
         ensures { FirstThat 0 64 (free_row self.now.request.now.m self.now.request.now.n self.now.asked.now self.now.plan.now.numerators self.now.entering.now self.now.leaving.now).offends result }
     {
         let found = 'walk: loop {
             for u in 0..self.request.m.min(8) {
                 let from = self.entering[u as usize];
                 for v in 0..self.request.n.min(8) {
-                    let c = cell(Input(u), Output(v));
-                    let i = c as usize;
-                    if below(self.asked[i], from, self.leaving[v as usize], self.plan.numerators[i]) {
+                    let c = cell(Input(u), Output(v)) as usize;
+                    if below(
+                        self.asked[c],
+                        from,
+                        self.leaving[v as usize],
+                        self.plan.numerators[c],
+                    ) {
                         break 'walk Some(c);
                     }
                 }

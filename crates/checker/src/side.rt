@@ -71,7 +71,7 @@ fn more<const N: usize>(most: &[u64; N], table: &[u64; N]) -> Option<usize>
 pub fn more_row<const N: usize>(cause: Cause, most: &[u64; N], table: &[u64; N]) -> Verdict
     ensures { result ≡ row_verdict (more_row cause N most.now table.now) }
 {
-    refused_if(cause, more(most, table).map(|i| i as u64))
+    refused_if(cause, more(most, table))
 }
 
 fn sums(ports: [Port; 8]) -> [u64; 8]
