@@ -44,11 +44,8 @@ fn ports<P: End>(count: u32, numerators: &[u64; 64]) -> [Port; 8]
 fn level(full: u64, port: Port) -> u64
     ensures { result ≡ level_of full port.sum port.most }
 {
-    if port.sum == full {
-        port.most
-    } else {
-        u64::MAX
-    }
+    let Port { sum, most } = port;
+    if sum == full { most } else { u64::MAX }
 }
 
 fn levels(full: &[u64; 8], ports: &[Port; 8]) -> [u64; 8]
