@@ -22,7 +22,7 @@ use Rattle.worked.specs.Reduced.{reduced_base, reduced_numerators}
 use Rattle.worked.specs.Saturated.{capped}
 use Rattle.switch.specs.Answer.{planned}
 use Rattle.judging.specs.PlanRows.{half_not_zero, base_row, judged}
-use Rattle.worked.specs.Worked.{rates_worked}
+use Rattle.worked.specs.Worked.{level_of, reason_by, rates_worked}
 use Rattle.formats.specs.Chosen.{chosen, chosen_at}
 use Rattle.formats.specs.PlanFile.{check_verdict, plan_written}
 use Rattle.formats.specs.RequestFile.{read_verdict, request_read, request_written}
@@ -62,6 +62,8 @@ use Rattle.shares.proofs.port.input_port.Reads as InputPort
 use Rattle.shares.proofs.port.output_port.Reads as OutputPort
 use Rattle.shares.proofs.reason.holds.Reads as Holds
 use Rattle.shares.proofs.reason.reason.Reads as Reason
+use Rattle.shares.proofs.reason.level.Reads as Level
+use Rattle.shares.proofs.reason.reason_by.Reads as ReasonBy
 use Rattle.shares.proofs.reason.reasons.Reads as Reasons
 use Rattle.shares.proofs.divisor.divisor.Reads as Divisor
 use Rattle.shares.proofs.divisor.common_divisor.Reads as CommonDivisor
@@ -121,8 +123,8 @@ pub record RequestsCalls : Type 0 where
 
 pub record SharesCalls : Type 2 where
   pub times : Settles Times.Asked Times.Post (λ κ z e. z) (λ κ (x, (y, _)). capped (x * y))
-  pub port : (P : RattleType) (laws : _) (copy : _) (end : _) (end_dict : _) (clone : _) (dict : _) → P.lives ≡ []
-      → Settles (Port.Asked P laws copy end end_dict clone dict) (Port.Post P laws copy end end_dict clone dict) (λ κ z e. z)
+  pub port : (P : RattleType) (laws : _) (copy : _) (end : _) (ends : _) (clone : _) (dict : _) → P.lives ≡ []
+      → Settles (Port.Asked P laws copy end ends clone dict) (Port.Post P laws copy end ends clone dict) (λ κ z e. z)
       (λ κ (count, (xs, (p, _))). port_of count (λ k. get_or xs.now (end.flow p k) 0))
   pub input_port : Settles InputPort.Asked InputPort.Post (λ κ z e. z) (λ κ (n, (xs, (u, _))). input_port n xs.now u)
   pub output_port : Settles OutputPort.Asked OutputPort.Post (λ κ z e. z) (λ κ (m, (xs, (v, _))). output_port m xs.now v)
@@ -130,6 +132,8 @@ pub record SharesCalls : Type 2 where
       (λ κ (port, (capacity, (d, (b, (x, _))))). holds port capacity d b x)
   pub reason : Settles Reason.Asked Reason.Post (λ κ z e. z)
       (λ κ (port, (capacity, (d, (b, (x, _))))). reason_from port capacity d b x)
+  pub level : Settles Level.Asked Level.Post (λ κ z e. z) (λ κ (full, (port, _)). level_of full port.sum port.most)
+  pub reason_by : Settles ReasonBy.Asked ReasonBy.Post (λ κ z e. z) (λ κ (asked, (entering, (x, _))). reason_by asked entering x)
   pub reasons : Settles Reasons.Asked Reasons.Post (λ κ z e. z)
       (λ κ (request, (b, (xs, _))). reasons_at request.now.m request.now.n request.now.inputs request.now.demands b xs.now)
   pub divisor : Settles Divisor.Asked Divisor.Post (λ κ z e. z) (λ κ (x, (y, _)). gcd x y)
