@@ -1,8 +1,8 @@
 -- A wrong reason is the row's first offender, and after the last cell there is none.
-use Rattle.std.proofs.Common.{ℕ, ◌≡◌, ◌+◌, ◌*◌, ◌/◌, ◌<◌, List, not, nat_eq, get_or, sym, ◌∙◌, ap, ne_eqb, arith}
+use Rattle.std.proofs.Common.{ℕ, ◌≡◌, ◌+◌, ◌*◌, ◌/◌, ◌<◌, List, not, nat_eq, get_or, sym, ◌∙◌, ap, subst, eq-eqb, ne_eqb, arith}
 use Rattle.switch.specs.Rows.{refusal}
 use Rattle.switch.specs.declared.verdict.Cause.TheVariants.{WrongReason}
-use Rattle.switch.proofs.Search.{row_refuses, row_accepts}
+use Rattle.switch.proofs.Search.{Passed, passed_more, row_refuses, row_accepts}
 use Rattle.worked.specs.Worked.{reason_by, reasons_row}
 use Rattle.checker.proofs.rates.Flows.reasons_row.Goals as goal
 
@@ -13,6 +13,14 @@ offends_as_said : (asked xs entering reasons : List ℕ) (u v cell said : ℕ) �
 offends_as_said asked xs entering reasons u v cell said low at by =
     let i : (8 * u + v) / 8 ≡ u = omega arith in
     rw (by, at, i)
+
+pub loop-v-preserved : goal.loop-v-preserved
+loop-v-preserved c =
+    let f = c.args.self.now in
+    let test = offends_as_said f.asked.now f.plan.now.numerators f.entering.now f.plan.now.reasons c.loop-u.u c.loop-v.v
+    c.cell-c.result c.reason_by.result (omega arith) c.cell-c.ensures c.reason_by.ensures in
+    subst (Passed _) (omega arith)
+    (passed_more c.loop-v.invariant (omega arith) (test ∙ ap not (eq-eqb _ _ c.if-self-i.false)))
 
 pub returns-then-self-i : goal.returns-then-self-i
 returns-then-self-i c =
