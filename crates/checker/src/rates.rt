@@ -79,8 +79,8 @@ impl Flows<'_> {
         refused_if(Cause::NoBottleneck, self.free_cell())
     }
 
-    // Row 15. An unused cell has rate 0 of demand 0, and so its reason is 0. (Two loops, so that an input's level is read once: one
-    // loop over the cells makes the check of a plan file 5% dearer.)
+    // Row 15. An unused cell has rate 0 of demand 0, and so its reason is 0. (Two loops, so that an input's level is read once:
+    // one loop over the cells makes the check of a plan file 5% dearer.)
     fn reasons_row(&self) -> Verdict
         ensures { result ≡ row_verdict (row_of_reasons self.now) }
     {

@@ -38,8 +38,8 @@ pub fn level(full: u64, port: Port) -> u64
     if sum == full { most } else { u64::MAX }
 }
 
-// The reason of a flow that asks for `asked`, by the level of its input. (One test of both, as `(x < asked) & (entering <= x)`, makes the
-// check of a plan file 5% dearer.)
+// The reason of a flow that asks for `asked`, by the level of its input. (One test of both, as `(x < asked) & (entering <= x)`,
+// makes the check of a plan file 5% dearer.)
 pub fn reason_by(asked: u64, entering: u64, x: u64) -> u8
     ensures { result ≡ reason_by asked entering x }
 {
