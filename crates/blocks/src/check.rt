@@ -4,7 +4,7 @@ ghost use Rattle.words.specs.Check.{rotated, taken, check, sealed, start_of, wor
 
 use crate::word::{put, word};
 
-// Rotated left by one bit.
+// Rotated left by one bit: a helper of our own, which document 01 asks for, and not `rotate_left`.
 fn rotated(x: u32) -> u32
     ensures { result ≡ rotated x }
 {
@@ -15,17 +15,17 @@ fn rotated(x: u32) -> u32
 fn taken(sum: u32, word: u32) -> u32
     ensures { result ≡ taken sum word }
 {
-    std::num::wrapping_add_u32(rotated(sum), word)
+    rotated(sum).wrapping_add(word)
 }
 
 // Where the sum of the block with this number starts.
 pub fn start_of(block: u32) -> u32
     ensures { result ≡ start_of block }
 {
-    std::num::wrapping_add_u32(block, 1)
+    block.wrapping_add(1)
 }
 
-// The running sum over the content of a file's block.
+// The running sum over the content of a file's block. By numbers and not over a slice: words past the file's end are 0 in the sum too.
 pub fn check(start: u32, file: &[u8], block: u32) -> u32
     ensures { result ≡ check start (word_in file.now block) }
 {
