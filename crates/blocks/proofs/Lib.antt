@@ -1,2 +1,3 @@
--- What the words of a row of bytes have to do with its chunks of four bytes.
+-- Where words stand among chunks of bytes, and what folding them gives.
 pub mod Chunks
+pub mod Running

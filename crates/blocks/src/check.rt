@@ -25,16 +25,12 @@ pub fn start_of(block: u32) -> u32
     block.wrapping_add(1)
 }
 
-// The running sum over the content of a file's block. By numbers and not over a slice: words past the file's end are 0 in the sum too.
+// The running sum over the content of a file's block. By number, since words past the file's end are 0 in the sum too.
 pub fn check(start: u32, file: &[u8], block: u32) -> u32
     ensures { result ≡ check start (word_in file.now block) }
 {
     let from = 128 * block as u64;
-    let mut sum = start;
-    for i in 0..127 {
-        sum = taken(sum, word(file, from + i));
-    }
-    sum
+    (0..127).map(|i| word(file, from + i)).fold(start, taken)
 }
 
 // Whether the block's last word is its check.
