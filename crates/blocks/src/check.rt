@@ -29,7 +29,7 @@ pub fn start_of(block: u32) -> u32
 pub fn check(start: u32, file: &[u8], block: u32) -> u32
     ensures { result ≡ check start (word_in file.now block) }
 {
-    let from = 128 * block as u64;
+    let from = 128 * u64::from(block);
     (0..127).map(|i| word(file, from + i)).fold(start, taken)
 }
 
@@ -37,7 +37,7 @@ pub fn check(start: u32, file: &[u8], block: u32) -> u32
 pub fn sealed(start: u32, file: &[u8], block: u32) -> bool
     ensures { result ≡ sealed start (word_in file.now block) }
 {
-    word(file, 128 * block as u64 + 127) == check(start, file, block)
+    word(file, 128 * u64::from(block) + 127) == check(start, file, block)
 }
 
 // Puts the check into the block's last word.
@@ -45,5 +45,5 @@ pub fn seal(start: u32, file: &mut [u8], block: u32)
     ensures { file.new ≡ sealed_in start file.old block }
 {
     let sum = check(start, file, block);
-    put(file, 128 * block as u64 + 127, sum);
+    put(file, 128 * u64::from(block) + 127, sum);
 }

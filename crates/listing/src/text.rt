@@ -49,19 +49,19 @@ impl Text {
         self.len = end;
     }
 
-    // A number in decimal: what comes before its last digit is the number a tenth as large. The digits are put by hand and not by
-    // `write!`, since document 01 defines the decimal form digit by digit and the contract says it in these words.
+    // A number in decimal: what comes before its last digit is the number a tenth as large. By hand and not by `write!`, which would
+    // answer an error for the want of room, though room is required here, and whose digits are std's and not those of `decimal`.
     #[tactic(auto, using(crate::proofs::Pieces::digits))]
     fn number(&mut self, x: u64)
         requires { HasRoom self.old (decimal x) }
         ensures { self.new ≡ self.old ++ decimal x }
     {
         if x < 10 {
-            self.word(&[48 + x as u8]);
+            self.word(&[b'0' + x as u8]);
             return;
         }
         self.number(x / 10);
-        self.word(&[48 + (x % 10) as u8]);
+        self.word(&[b'0' + (x % 10) as u8]);
     }
 
     // A number, and the byte that comes after it: a space or a line feed.
