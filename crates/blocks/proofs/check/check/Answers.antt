@@ -10,7 +10,7 @@ pub returns : goal.returns
 returns c =
     let a = c.args in
     let w = word_in a.file.now a.block in
-    fold_from_yields_List _ (λ sum x. taken sum x) a.start _ c.fold.ensures.ran
+    fold_from_yields_List _ (λ sum x. taken sum x) _ _ c.fold.ensures.ran
     (YieldsList-from_map _ w (YieldsList-at c.map.ensures.source (YieldsList-from_range 0 127 127 refl refl))
     c.map.ensures.closure (λ x r q k. search rules))
     (λ s x b q k. search rules)
