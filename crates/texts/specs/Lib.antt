@@ -2,5 +2,4 @@
 pub mod Ascii
 pub mod Decimal
 pub mod Listing
-pub mod Appended
 pub mod Shown
