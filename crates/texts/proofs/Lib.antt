@@ -1,5 +1,6 @@
 -- What follows from the definitions of listings.
 pub mod Decimal
+pub mod Pieces
 pub mod Fits
 pub mod Room
 pub mod Texts

@@ -2,4 +2,5 @@
 pub mod Ascii
 pub mod Decimal
 pub mod Listing
+pub mod Appended
 pub mod Shown
