@@ -11,9 +11,10 @@ use switch::request::Request;
 // A run with the most rounds and the most files still ends in seconds.
 const MOST_ROUNDS: u16 = 1000;
 
-// With the first word they are 64 KiB, but for the rest of a file.
+// What 64 KiB hold besides the first word.
 const MOST_FILES: u16 = 127;
 
+// What is measured: the plan, the check of its file, or the sums of the file's blocks.
 #[derive(Clone, Copy)]
 enum Measured {
     Plan,
@@ -31,50 +32,42 @@ impl From<u16> for Measured {
     }
 }
 
-fn repeated<F: Fn(u64) -> u64>(round: F, rounds: u16, digest: u64) -> u64
+// A round makes the digest after it of the one before.
+fn repeated<F: Fn(u64) -> u64>(rounds: u16, digest: u64, round: F) -> u64
     requires { F.IsAlwaysCallable round }
 {
-    let mut digest = digest;
-    for _ in 0..rounds {
-        digest = round(digest);
-    }
-    digest
+    (0..rounds).fold(digest, |digest, _| round(digest))
+}
+
+fn planned(request: Request, rounds: u16, digest: u64) -> u64 {
+    repeated(rounds, digest, |digest| {
+        let answer = plan(request);
+        with(digest, sum_of(&answer.plan))
+    })
+}
+
+fn checked(file: &[u8], rounds: u16, digest: u64) -> u64 {
+    repeated(rounds, digest, |digest| {
+        let verdict = check(file);
+        with(digest, number_of(verdict))
+    })
+}
+
+fn summed(file: &[u8], rounds: u16, digest: u64) -> u64 {
+    repeated(rounds, digest, |digest| {
+        (0..3).fold(digest, |digest, block| {
+            let sum = sum_of_block(file, block);
+            with(digest, sum)
+        })
+    })
 }
 
 impl Measured {
-    fn planned(request: Request, rounds: u16, digest: u64) -> u64 {
-        let round = |digest| {
-            let answer = plan(request);
-            with(digest, sum_of(&answer.plan))
-        };
-        repeated(round, rounds, digest)
-    }
-
-    fn checked(request: Request, rounds: u16, digest: u64) -> u64 {
-        let file = written(request);
-        let file = told(&file);
-        repeated(
-            |digest| with(digest, number_of(check(file))),
-            rounds,
-            digest,
-        )
-    }
-
-    fn summed(request: Request, rounds: u16, digest: u64) -> u64 {
-        let file = written(request);
-        let file = told(&file);
-        let round = |digest| (0..3).fold(
-            digest,
-            |digest, block| with(digest, sum_of_block(file, block)),
-        );
-        repeated(round, rounds, digest)
-    }
-
-    fn digest(self, request: Request, rounds: u16, digest: u64) -> u64 {
+    fn measured(self, request: Request, rounds: u16, digest: u64) -> u64 {
         match self {
-            Measured::Plan => Measured::planned(request, rounds, digest),
-            Measured::Check => Measured::checked(request, rounds, digest),
-            Measured::Sums => Measured::summed(request, rounds, digest),
+            Measured::Plan => planned(request, rounds, digest),
+            Measured::Check => checked(told(&written(request)), rounds, digest),
+            Measured::Sums => summed(told(&written(request)), rounds, digest),
         }
     }
 }
@@ -95,7 +88,7 @@ pub fn all(input: &mut impl Read) -> u64 {
             break;
         }
         let answer = read_request(&file);
-        digest = what.digest(answer.request, rounds, digest);
+        digest = what.measured(answer.request, rounds, digest);
     }
     digest
 }

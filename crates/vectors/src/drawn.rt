@@ -1,10 +1,6 @@
 // The triangle, which is the pattern of the report's figure 1, and the plans that are drawn for it.
 use crate::values::Change::{Base, Demand, Input, M, N, Numerator, Output, Reason};
-use crate::values::Run;
-use switch::request::Request;
-
-// More than any capacity or demand may be.
-const OVER: u32 = Request::DEMAND + 1;
+use crate::values::{OVER, Run};
 
 // Numbers of the worked listing changed, until it is the triangle: four inputs and outputs, every capacity 1, and demand 1 where
 // the output's number is at most the input's.

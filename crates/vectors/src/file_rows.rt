@@ -1,11 +1,10 @@
 // The words that are changed in the worked listing's plan file: the refusals 2 to 15, by their numbers.
 use crate::changes::Change::{self, AsNext, Sealed, Unsealed};
+use crate::values::OVER;
 use switch::request::Request;
 
-// The largest capacity and demand, and one more.
+// The largest capacity and demand.
 const MOST: u32 = Request::DEMAND;
-
-const OVER: u32 = MOST + 1;
 
 pub const CHANGES: [&[Change]; 43] = [
     &[Sealed { word: 0, to: 1 }], // nothing changed

@@ -1,11 +1,7 @@
 // The numbers that are changed in the triangle and its plan.
 use crate::values::Change::{Base, Demand, Input, M, N, Numerator, Output, Reason};
-use crate::values::Run;
+use crate::values::{OVER, Run};
 use switch::plan::Plan;
-use switch::request::Request;
-
-// More than any capacity or demand may be.
-const OVER: u32 = Request::DEMAND + 1;
 
 // A number of two words: 1 in the high one, and 1 in both.
 const HIGH: u64 = 4_294_967_296;

@@ -7,6 +7,9 @@ use std::{fmt, io};
 use switch::plan::Plan;
 use switch::request::Request;
 
+// More than any capacity or demand may be.
+pub const OVER: u32 = Request::DEMAND + 1;
+
 // One number, and what it is changed to.
 #[derive(Clone, Copy)]
 pub enum Change {
