@@ -2,8 +2,7 @@
 #![tactic(auto)]
 
 use listing::list::list;
-use std::io;
-use std::io::Read;
+use std::io::{self, Read};
 use texts::list::Listed;
 
 // One byte more than a request file has, so that a longer file is seen to be longer.
@@ -12,7 +11,7 @@ const MOST: usize = 513;
 fn main(rt: HostRuntime) {
     let mut file = [0u8; MOST];
     let mut rest = &mut file[..];
-    // A read that fails ends the file.
+    // A read that fails ends the file. No clause of the copy says that what is left is no longer than before.
     let _ = io::copy(&mut rt.reader().take(MOST as u64), &mut rest);
     let size = MOST.saturating_sub(rest.len());
     let mut text = [0u8; Listed::LONGEST];

@@ -3,25 +3,34 @@ use crate::example::request;
 use blocks::check::{check, start_of};
 use files::plan::write_plan;
 use files::request::write_request;
-use std::io;
+use std::{fmt, io};
 
 fn empty_check(rt: &impl Print, block: u32) -> io::Result<()> {
     let sum = check(start_of(block), &[0; 512], 0);
     println!(rt; "check of block {block} without content: {sum:08x}")
 }
 
-fn bytes(rt: &impl Print, bytes: &[u8]) -> io::Result<()> {
-    for byte in bytes {
-        print!(rt; " {byte:02x}")?;
-    }
-    println!(rt)
+// Sixteen bytes of a file, after the number of the first.
+#[derive(Clone, Copy)]
+struct Line<'a> {
+    at: u64,
+    bytes: &'a [u8],
 }
 
-// Sixteen bytes make a line, after the number of the first.
+impl fmt::Display for Line<'_> {
+    fn fmt<W: fmt::Write>(&self, f: &mut fmt::Formatter<W>) -> fmt::Result {
+        write!(f, "{:06x}", self.at)?;
+        for byte in self.bytes {
+            write!(f, " {byte:02x}")?;
+        }
+        Ok(())
+    }
+}
+
 fn lines(rt: &impl Print, file: &[u8]) -> io::Result<()> {
-    for (at, line) in (0u64..).step_by(16).zip(file.chunks_exact(16)) {
-        print!(rt; "{at:06x}")?;
-        bytes(rt, line)?;
+    for (at, bytes) in (0..).step_by(16).zip(file.chunks_exact(16)) {
+        let line = Line { at, bytes };
+        println!(rt; "{line}")?;
     }
     Ok(())
 }

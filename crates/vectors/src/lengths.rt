@@ -36,7 +36,7 @@ impl File {
 fn written(rt: &impl Print, file: File, m: u32, buffer: &mut [u8]) -> io::Result<()> {
     let verdict = file.write(Request { m, ..request() }, buffer);
     print!(rt; " is {}: {}", Shown(verdict), read(buffer, buffer))?;
-    if let ([first, ..], [.., last]) = (&*buffer, &*buffer) {
+    if let (Some(first), Some(last)) = (buffer.first(), buffer.last()) {
         print!(rt; ", first byte {first}, last byte {last}")?;
     }
     println!(rt)
