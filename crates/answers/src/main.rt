@@ -4,19 +4,17 @@
 
 mod question;
 
+use std::io;
+
 // A program has to end, so there is a most of what is answered in one run.
 const MOST: u32 = 1_000_000;
 
-fn all(first: &mut [u8], second: &mut [u8]) {
-    for i in 0..MOST {
-        if !question::answered(first, second) {
-            return;
+fn main(rt: HostRuntime) {
+    let mut input = rt.reader();
+    let mut output = io::writer(&rt);
+    for _ in 0..MOST {
+        if question::answer_next(&mut input, &mut output).is_none() {
+            break;
         }
     }
-}
-
-fn main() {
-    let mut first = io::buffer();
-    let mut second = io::buffer();
-    all(&mut first, &mut second);
 }

@@ -7,9 +7,9 @@ mod digest;
 mod rounds;
 mod saved;
 
-fn main() {
-    let mut buffer = io::large_buffer();
-    let length = io::read_full(0, &mut buffer);
-    io::print_decimal(1, rounds::all(&buffer[..length]));
-    io::write_all(1, b"\n");
+use std::io;
+
+fn main(rt: HostRuntime) -> io::Result<()> {
+    let digest = rounds::all(&mut rt.reader());
+    println!(rt; "{digest}")
 }

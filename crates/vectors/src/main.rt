@@ -11,13 +11,16 @@ mod show;
 mod value_rows;
 mod values;
 
-fn main() {
-    let last = values::all(b"the worked listing", example::request(), &drawn::LISTING);
-    let triangle = last.request;
-    values::all(b"\nthe triangle", triangle, &drawn::PLANS);
-    values::all(b"\nthe triangle again", triangle, &value_rows::CHANGES);
-    changes::tables(triangle);
-    lengths::all();
-    dump::all();
-    show::text(b"\n");
+use std::io;
+
+fn main(rt: HostRuntime) -> io::Result<()> {
+    println!(rt; "the worked listing")?;
+    let last = values::all(&rt, example::request(), &drawn::LISTING)?;
+    println!(rt; "the triangle")?;
+    values::all(&rt, last.request, &drawn::PLANS)?;
+    println!(rt; "the triangle again")?;
+    values::all(&rt, last.request, &value_rows::CHANGES)?;
+    changes::all(&rt, last.request)?;
+    lengths::all(&rt)?;
+    dump::all(&rt)
 }
