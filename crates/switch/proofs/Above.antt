@@ -11,7 +11,7 @@ use Rattle.std.proofs.lemmas.List.Quantifiers.{position-Some}
 use Rattle.std.proofs.lemmas.List.Sums.{fails_before_first}
 use Rattle.switch.specs.Tables.{FirstAbove, FoundAbove}
 
-none_passes : {X : Type 0} (p : X → Bool) (xs : List X) (d : X) → position p xs ≡ None → (k : ℕ) → k < length xs → p (get_or xs k d) ≡ false
+pub none_passes : {X : Type 0} (p : X → Bool) (xs : List X) (d : X) → position p xs ≡ None → (k : ℕ) → k < length xs → p (get_or xs k d) ≡ false
 none_passes p xs d none k lt = elim (cases_lt (position_or_len p xs) (length xs)) [
   | inl inside ↦ grind (arith, common_steps)
   | inr past ↦ fails_before_first p xs k d (omega arith)
