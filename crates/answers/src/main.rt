@@ -4,16 +4,12 @@
 
 mod question;
 
-use std::io;
-
 // A program has to end, so there is a most of what is answered in one run.
 const MOST: u32 = 1_000_000;
 
-fn main(rt: HostRuntime) {
-    let mut input = rt.reader();
-    let mut output = io::writer(&rt);
+fn main() {
     for _ in 0..MOST {
-        if question::answer_next(&mut input, &mut output).is_none() {
+        if question::answer_next().is_none() {
             break;
         }
     }

@@ -2,7 +2,6 @@
 use export::calls::{
     rate_plan_check, rate_plan_choose, rate_plan_list, rate_plan_read, rate_plan_write,
 };
-use std::io::{Read, Write};
 
 // The most bytes of a file and of a buffer.
 const MOST: usize = 4096;
@@ -56,10 +55,20 @@ struct Head {
     second: u16,
 }
 
+// Fills a space from the input, and is none if the input ends before.
+fn read(space: &mut [u8]) -> Option<()> {
+    let length = space.len();
+    (io::read_full(0, space) == length).then_some(())
+}
+
+fn write(bytes: &[u8]) -> Option<()> {
+    io::write_all(1, bytes).then_some(())
+}
+
 // The head is four numbers of 16 bits.
-fn read_head(input: &mut impl Read) -> Option<Head> {
+fn read_head() -> Option<Head> {
     let mut bytes = [0; 8];
-    input.read_exact(&mut bytes).ok()?;
+    read(&mut bytes)?;
     let [a, b, c, d, e, f, g, h] = bytes;
     Some(Head {
         call: Call::try_from(u16::from_le_bytes([a, b])).ok()?,
@@ -70,23 +79,23 @@ fn read_head(input: &mut impl Read) -> Option<Head> {
 }
 
 // The beginning of a space, filled from the input: none if the space is shorter, or the input ends before.
-fn read_file<'a>(input: &mut impl Read, length: u16, space: &'a mut [u8]) -> Option<&'a [u8]> {
+fn read_file<'a>(length: u16, space: &'a mut [u8]) -> Option<&'a [u8]> {
     let file = space.get_mut(..usize::from(length))?;
-    input.read_exact(file).ok()?;
+    read(file)?;
     Some(file)
 }
 
 // Before the call every byte of the buffer is one of which no text and no file is made alone. Nothing is answered at the end of
 // the input, nor if what is asked is no question.
-pub fn answer_next(input: &mut impl Read, output: &mut impl Write) -> Option<()> {
-    let head = read_head(input)?;
+pub fn answer_next() -> Option<()> {
+    let head = read_head()?;
     let mut space = [165; MOST];
     let buffer = space.get_mut(..usize::from(head.room))?;
     let mut first = [0; MOST];
-    let first = read_file(input, head.first, &mut first)?;
+    let first = read_file(head.first, &mut first)?;
     let mut second = [0; MOST];
-    let second = read_file(input, head.second, &mut second)?;
+    let second = read_file(head.second, &mut second)?;
     let number = head.call.make(first, second, buffer);
-    output.write_all(&number.to_le_bytes()).ok()?;
-    output.write_all(buffer).ok()
+    write(&number.to_le_bytes())?;
+    write(buffer)
 }

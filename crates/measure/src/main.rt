@@ -7,9 +7,7 @@ mod digest;
 mod rounds;
 mod saved;
 
-use std::io;
-
-fn main(rt: HostRuntime) -> io::Result<()> {
-    let digest = rounds::all(&mut rt.reader());
-    println!(rt; "{digest}")
+fn main() {
+    io::print_decimal(1, rounds::all());
+    io::write_all(1, b"\n");
 }

@@ -5,7 +5,6 @@ use crate::saved::{number_of, sum_of_block, told, written};
 use files::check::check;
 use files::request::read_request;
 use planner::plan::plan;
-use std::io::Read;
 use switch::request::Request;
 
 // A run with the most rounds and the most files still ends in seconds.
@@ -72,10 +71,16 @@ impl Measured {
     }
 }
 
+// Whether the input filled the whole space.
+fn filled(space: &mut [u8]) -> bool {
+    let length = space.len();
+    io::read_full(0, space) == length
+}
+
 // Whole files only: what is left at the end is not looked at.
-pub fn all(input: &mut impl Read) -> u64 {
+pub fn all() -> u64 {
     let mut first = [0; 4];
-    if input.read_exact(&mut first).is_err() {
+    if !filled(&mut first) {
         return 0;
     }
     let [a, b, c, d] = first;
@@ -84,7 +89,7 @@ pub fn all(input: &mut impl Read) -> u64 {
     let mut file = [0; 512];
     let mut digest = 0;
     for _ in 0..MOST_FILES {
-        if input.read_exact(&mut file).is_err() {
+        if !filled(&mut file) {
             break;
         }
         let answer = read_request(&file);

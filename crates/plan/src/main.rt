@@ -2,22 +2,15 @@
 #![tactic(auto)]
 
 use listing::list::list;
-use std::io::{self, Read};
 use texts::list::Listed;
 
-// One byte more than a request file has, so that a longer file is seen to be longer.
-const MOST: usize = 513;
-
-fn main(rt: HostRuntime) {
-    let mut file = [0u8; MOST];
-    let mut rest = &mut file[..];
-    // A read that fails ends the file. No clause of the copy says that what is left is no longer than before.
-    let _ = io::copy(&mut rt.reader().take(MOST as u64), &mut rest);
-    let size = MOST.saturating_sub(rest.len());
-    let mut text = [0u8; Listed::LONGEST];
+// One byte more than a request file has is read, so that a longer file is seen to be longer.
+fn main() {
+    let mut file = [0; 513];
+    let size = io::read_full(0, &mut file);
+    let mut text = [0; Listed::LONGEST];
     let listed = list(&file[..size], &mut text);
-    let length = listed.length as usize;
-    if rt.write_all(&text[..length]).is_err() {
-        let _ = rt.eprintln("plan: the listing could not be written");
+    if !io::write_all(1, &text[..listed.length as usize]) {
+        io::write_all(2, b"plan: the listing could not be written\n");
     }
 }

@@ -7,7 +7,7 @@ use blocks::check::{seal, start_of};
 use blocks::word::{put, word};
 use files::choose::choose;
 use files::plan::write_plan;
-use std::{fmt, io};
+use std::fmt;
 use switch::request::Request;
 
 // A word of the file, what it is changed to, and how its block is sealed then: as it is, as if it were the next one, or not again.
@@ -48,10 +48,11 @@ impl Change {
 }
 
 // The plan that is chosen is told by its base.
-fn judged(rt: &impl Print, file: &[u8; 1536], running: &[u8]) -> io::Result<()> {
+fn judged(out: &mut impl fmt::Write, file: &[u8; 1536], running: &[u8]) -> fmt::Result {
     let part = choose(file, running);
     let both = read(&file[..512], file);
-    println!(rt;
+    writeln!(
+        out,
         ": {both}, chosen {} bytes of base {}",
         part.len(),
         word(part, 1)
@@ -59,35 +60,36 @@ fn judged(rt: &impl Print, file: &[u8; 1536], running: &[u8]) -> io::Result<()> 
 }
 
 // The changes come one on top of another, and each is tried.
-fn run(rt: &impl Print, changes: &[Change], running: &[u8]) -> io::Result<()> {
+fn run(out: &mut impl fmt::Write, changes: &[Change], running: &[u8]) -> fmt::Result {
     let mut file = [0; 1536];
     write_plan(request(), &mut file);
     for (before, change) in changes.iter().enumerate() {
         let (word, to) = change.word();
         change.make(&mut file);
-        print!(rt;
+        write!(
+            out,
             "file, word {word} = {to}{}{}",
             as_well(0 < before),
             change.seal()
         )?;
-        judged(rt, &file, running)?;
+        judged(out, &file, running)?;
     }
     Ok(())
 }
 
-fn table(rt: &impl Print, table: &[&[Change]], running: &[u8]) -> io::Result<()> {
+fn table(out: &mut impl fmt::Write, table: &[&[Change]], running: &[u8]) -> fmt::Result {
     for changes in table {
-        run(rt, changes, running)?;
+        run(out, changes, running)?;
     }
     Ok(())
 }
 
 // The plan of this request is running, and is then damaged.
-pub fn all(rt: &impl Print, request: Request) -> io::Result<()> {
+pub fn all(out: &mut impl fmt::Write, request: Request) -> fmt::Result {
     let mut running = [0; 1536];
     write_plan(request, &mut running);
-    table(rt, &CHANGES, &running)?;
-    println!(rt; "the running file damaged")?;
+    table(out, &CHANGES, &running)?;
+    writeln!(out, "the running file damaged")?;
     put(&mut running, 130, 1);
-    table(rt, &CHOICES, &running)
+    table(out, &CHOICES, &running)
 }

@@ -3,11 +3,11 @@ use crate::example::request;
 use blocks::check::{check, start_of};
 use files::plan::write_plan;
 use files::request::write_request;
-use std::{fmt, io};
+use std::fmt;
 
-fn empty_check(rt: &impl Print, block: u32) -> io::Result<()> {
+fn empty_check(out: &mut impl fmt::Write, block: u32) -> fmt::Result {
     let sum = check(start_of(block), &[0; 512], 0);
-    println!(rt; "check of block {block} without content: {sum:08x}")
+    writeln!(out, "check of block {block} without content: {sum:08x}")
 }
 
 // Sixteen bytes of a file, after the number of the first.
@@ -27,24 +27,24 @@ impl fmt::Display for Line<'_> {
     }
 }
 
-fn lines(rt: &impl Print, file: &[u8]) -> io::Result<()> {
+fn lines(out: &mut impl fmt::Write, file: &[u8]) -> fmt::Result {
     for (at, bytes) in (0..).step_by(16).zip(file.chunks_exact(16)) {
         let line = Line { at, bytes };
-        println!(rt; "{line}")?;
+        writeln!(out, "{line}")?;
     }
     Ok(())
 }
 
-pub fn all(rt: &impl Print) -> io::Result<()> {
+pub fn all(out: &mut impl fmt::Write) -> fmt::Result {
     for block in 0..3 {
-        empty_check(rt, block)?;
+        empty_check(out, block)?;
     }
     let mut file = [0; 512];
     write_request(request(), &mut file);
-    println!(rt; "the file as drawn:")?;
-    lines(rt, &file)?;
+    writeln!(out, "the file as drawn:")?;
+    lines(out, &file)?;
     let mut file = [0; 1536];
     write_plan(request(), &mut file);
-    println!(rt; "the plan file as drawn:")?;
-    lines(rt, &file)
+    writeln!(out, "the plan file as drawn:")?;
+    lines(out, &file)
 }

@@ -2,10 +2,9 @@
 ghost use Rattle.std.specs.Prelude.{◌<◌, ◌≤◌};
 
 use crate::example::{read, request};
-use crate::show::Shown;
 use files::plan::write_plan;
 use files::request::write_request;
-use std::io;
+use std::fmt;
 use switch::request::Request;
 use switch::verdict::Verdict;
 
@@ -33,35 +32,35 @@ impl File {
     }
 }
 
-fn written(rt: &impl Print, file: File, m: u32, buffer: &mut [u8]) -> io::Result<()> {
+fn written(out: &mut impl fmt::Write, file: File, m: u32, buffer: &mut [u8]) -> fmt::Result {
     let verdict = file.write(Request { m, ..request() }, buffer);
-    print!(rt; " is {}: {}", Shown(verdict), read(buffer, buffer))?;
+    write!(out, " is {}: {}", verdict, read(buffer, buffer))?;
     if let (Some(first), Some(last)) = (buffer.first(), buffer.last()) {
-        print!(rt; ", first byte {first}, last byte {last}")?;
+        write!(out, ", first byte {first}, last byte {last}")?;
     }
-    println!(rt)
+    writeln!(out)
 }
 
 // Every byte is 170 before.
-fn tried(rt: &impl Print, file: File, m: u32, room: usize) -> io::Result<()> {
+fn tried(out: &mut impl fmt::Write, file: File, m: u32, room: usize) -> fmt::Result {
     let length = file.length();
-    print!(rt; "file of {length} bytes into {room} with m = {m}")?;
+    write!(out, "file of {length} bytes into {room} with m = {m}")?;
     let mut space = [170; 1537];
     let room = room.min(space.len());
-    written(rt, file, m, &mut space[..room])
+    written(out, file, m, &mut space[..room])
 }
 
-fn rooms(rt: &impl Print, file: File, m: u32) -> io::Result<()> {
+fn rooms(out: &mut impl fmt::Write, file: File, m: u32) -> fmt::Result {
     let length = file.length();
     for room in [0, length - 1, length, length + 1] {
-        tried(rt, file, m, room)?;
+        tried(out, file, m, room)?;
     }
     Ok(())
 }
 
-pub fn all(rt: &impl Print) -> io::Result<()> {
-    rooms(rt, File::Request, 0)?;
-    rooms(rt, File::Request, 2)?;
-    rooms(rt, File::Plan, 0)?;
-    rooms(rt, File::Plan, 2)
+pub fn all(out: &mut impl fmt::Write) -> fmt::Result {
+    rooms(out, File::Request, 0)?;
+    rooms(out, File::Request, 2)?;
+    rooms(out, File::Plan, 0)?;
+    rooms(out, File::Plan, 2)
 }

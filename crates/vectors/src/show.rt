@@ -1,21 +1,6 @@
 // How what was answered is shown.
 use std::fmt;
-use switch::verdict::{Refusal, Verdict};
-
-// `accepted`, or `refused` with the refusal's number and its place.
-#[derive(Clone, Copy)]
-pub struct Shown(pub Verdict);
-
-impl fmt::Display for Shown {
-    fn fmt<W: fmt::Write>(&self, f: &mut fmt::Formatter<W>) -> fmt::Result {
-        match self.0 {
-            Verdict::Accepted => write!(f, "accepted"),
-            Verdict::Refused(Refusal { cause, place }) => {
-                write!(f, "refused {} {place}", cause.number())
-            }
-        }
-    }
-}
+use switch::verdict::Verdict;
 
 // What was answered of a request, and of it with its plan.
 #[derive(Clone, Copy)]
@@ -26,12 +11,7 @@ pub struct Both {
 
 impl fmt::Display for Both {
     fn fmt<W: fmt::Write>(&self, f: &mut fmt::Formatter<W>) -> fmt::Result {
-        write!(
-            f,
-            "request {}, plan {}",
-            Shown(self.request),
-            Shown(self.plan)
-        )
+        write!(f, "request {}, plan {}", self.request, self.plan)
     }
 }
 

@@ -3,7 +3,7 @@ use crate::show::{Both, as_well};
 use checker::judge::judge;
 use planner::plan::plan as planned;
 use requests::check::check;
-use std::{fmt, io};
+use std::fmt;
 use switch::plan::Plan;
 use switch::request::Request;
 
@@ -84,7 +84,7 @@ impl Offer {
 }
 
 impl Run {
-    fn follow(&self, rt: &impl Print, start: Offer) -> io::Result<Offer> {
+    fn follow(&self, out: &mut impl fmt::Write, start: Offer) -> Result<Offer, fmt::Error> {
         let mut offer = self
             .made
             .iter()
@@ -92,7 +92,7 @@ impl Run {
         let mut stay = !self.made.is_empty();
         for change in self.tried {
             offer = offer.with(*change);
-            println!(rt; "{change}{}: {}", as_well(stay), offer.judged())?;
+            writeln!(out, "{change}{}: {}", as_well(stay), offer.judged())?;
             stay = true;
         }
         Ok(offer)
@@ -100,7 +100,11 @@ impl Run {
 }
 
 // Begins with the plan that is worked out, and hands back what the last run left.
-pub fn all(rt: &impl Print, request: Request, table: &[Run]) -> io::Result<Offer> {
+pub fn all(
+    out: &mut impl fmt::Write,
+    request: Request,
+    table: &[Run],
+) -> Result<Offer, fmt::Error> {
     let answer = planned(request);
     let start = Offer {
         request,
@@ -108,7 +112,7 @@ pub fn all(rt: &impl Print, request: Request, table: &[Run]) -> io::Result<Offer
     };
     let mut last = start;
     for run in table {
-        last = run.follow(rt, start)?;
+        last = run.follow(out, start)?;
     }
     Ok(last)
 }
