@@ -1,3 +1,4 @@
--- What the check of a plan file and the writers rest on beside their rows.
-pub mod Checked
+-- What the readers, the check of a plan file and the writers rest on beside their rows.
+pub mod Made
+pub mod Refusing
 pub mod Saved
