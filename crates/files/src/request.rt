@@ -1,30 +1,32 @@
 // Request files: a request saved in one block of 512 bytes, and read back.
-ghost use Rattle.std.specs.Prelude.{◌≡◌};
+ghost use Rattle.std.specs.Prelude.{◌≡◌, [], ◌∷◌};
+ghost use Rattle.switch.specs.RequestRows.{request_verdict};
+ghost use Rattle.switch.specs.Rows.{row_verdict, or_else, verdict_of};
+ghost use Rattle.formats.specs.FileRows.{length_row, check_row, kind_row, spare_row};
 ghost use Rattle.formats.specs.RequestFile.{request_in, read_verdict, request_read, request_written};
 ghost use Rattle.formats.specs.Writing.{write_verdict};
 
 use crate::layout::write_block;
 use crate::read::request_in;
-use crate::rows::{check_row, kind_row, length_row, room_row, spare_row};
+use crate::rows::{frame_rows, room_row, spare_row};
 use formats::request::RequestRead;
 use requests::check::check;
 use switch::request::Request;
 use switch::verdict::Verdict;
 
 // Rows 1 to 7, of a file and the request that was read there.
+#[tactic(auto, unfolding(switch::specs::Rows::verdict_of))]
 fn all_rows(file: &[u8], request: Request) -> Verdict
-    requires { request ≡ request_in file.now }
-    ensures { result ≡ read_verdict file.now }
+    ensures { result ≡ or_else (verdict_of (length_row 512 file.now ∷ check_row 1 file.now ∷ kind_row (1 ∷ []) file.now ∷ [])) (or_else (request_verdict request) (row_verdict (spare_row 0 83 44 file.now))) }
 {
-    length_row(file, 512)?;
-    check_row(file, 1)?;
-    kind_row(file, &[1])?;
+    frame_rows(file, &[1])?;
     check(request)?;
     spare_row(file, 0, 83..127)
 }
 
 // Reads a request file. Any bytes can be read, since past their end there is 0 to read; but what a refused file holds is not
 // handed back.
+#[tactic(auto, using(crate::proofs::Reading::read_in_order))]
 pub fn read_request(file: &[u8]) -> RequestRead
     ensures { result ≡ request_read file.now }
 {
@@ -38,6 +40,7 @@ pub fn read_request(file: &[u8]) -> RequestRead
 }
 
 // Writes a request's file into the first 512 bytes: rows 4 to 7, then 16. Nothing is written before all of them accept.
+#[tactic(auto, unfolding(switch::specs::Rows::verdict_of))]
 pub fn write_request(request: Request, buffer: &mut [u8]) -> Verdict
     ensures value { result ≡ write_verdict 512 request buffer.old }
     ensures buffer_after { buffer.new ≡ request_written request buffer.old }

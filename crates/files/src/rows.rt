@@ -1,6 +1,7 @@
 // The rows of the refusal table that speak of bytes: 1 to 3, the spare words of 7, and 16.
-ghost use Rattle.std.specs.Prelude.{◌≡◌, ◌-◌, ◌<◌, ◌≤◌, length};
-ghost use Rattle.switch.specs.Rows.{row_verdict};
+ghost use Rattle.std.specs.Prelude.{◌≡◌, ◌-◌, ◌*◌, ◌<◌, ◌≤◌, [], ◌∷◌, length};
+ghost use Rattle.switch.specs.Rows.{row_verdict, verdict_of};
+ghost use Rattle.switch.specs.declared.verdict.Verdict.TheVariants.{Accepted};
 ghost use Rattle.formats.specs.FileRows.{length_row, check_row, kind_row, spare_row, room_row};
 
 use blocks::check::{sealed, start_of};
@@ -9,7 +10,7 @@ use std::ops::Range;
 use switch::verdict::{Cause, Verdict, refused};
 
 #[tactic(auto, unfolding(switch::specs::Rows::row_verdict, switch::specs::Rows::first_from))]
-pub fn length_row(file: &[u8], size: usize) -> Verdict
+fn length_row(file: &[u8], size: usize) -> Verdict
     ensures { result ≡ row_verdict (length_row size file.now) }
 {
     if file.len() != size {
@@ -20,7 +21,8 @@ pub fn length_row(file: &[u8], size: usize) -> Verdict
 
 #[tactic(auto, unfolding(switch::specs::Rows::row_verdict, switch::specs::Rows::first_from))]
 pub fn room_row(buffer: &[u8], size: usize) -> Verdict
-    ensures { result ≡ row_verdict (room_row size buffer.now) }
+    ensures value { result ≡ row_verdict (room_row size buffer.now) }
+    ensures enough { result ≡ Accepted → size ≤ length buffer.now }
 {
     if buffer.len() < size {
         return refused(Cause::Room, 0);
@@ -30,7 +32,7 @@ pub fn room_row(buffer: &[u8], size: usize) -> Verdict
 
 // The checks of the first `blocks` blocks.
 #[tactic(auto, using(crate::proofs::Refusing::refuses_there, switch::proofs::Search::row_accepts))]
-pub fn check_row(file: &[u8], blocks: u32) -> Verdict
+fn check_row(file: &[u8], blocks: u32) -> Verdict
     ensures { result ≡ row_verdict (check_row blocks file.now) }
 {
     for b in 0..blocks {
@@ -43,7 +45,7 @@ pub fn check_row(file: &[u8], blocks: u32) -> Verdict
 
 // The kinds of the file's blocks.
 #[tactic(auto, using(crate::proofs::Refusing::refuses_there, switch::proofs::Search::row_accepts))]
-pub fn kind_row(file: &[u8], kinds: &[u32]) -> Verdict
+fn kind_row(file: &[u8], kinds: &[u32]) -> Verdict
     requires { length kinds.now < 4_294_967_296 }
     ensures { result ≡ row_verdict (kind_row kinds.now file.now) }
 {
@@ -54,6 +56,17 @@ pub fn kind_row(file: &[u8], kinds: &[u32]) -> Verdict
         }
     }
     Verdict::Accepted
+}
+
+// Rows 1 to 3 of a file that is made of blocks of these kinds.
+#[tactic(auto, unfolding(switch::specs::Rows::verdict_of))]
+pub fn frame_rows<const N: usize>(file: &[u8], kinds: &[u32; N]) -> Verdict
+    requires { N < 4_294_967_296 }
+    ensures { result ≡ verdict_of (length_row (512 * N) file.now ∷ check_row N file.now ∷ kind_row kinds.now file.now ∷ []) }
+{
+    length_row(file, 512 * N)?;
+    check_row(file, N as u32)?;
+    kind_row(file, kinds)
 }
 
 // The spare words of a block.
