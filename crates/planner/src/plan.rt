@@ -59,7 +59,7 @@ fn worked_out(request: Request) -> Plan
         &mut numerators,
     );
     let base = reduce(filled, &mut numerators);
-    let reasons = reasons(request.m, request.n, &inputs, &demands, base, &numerators);
+    let reasons = reasons(&request, base, &numerators);
     Plan {
         base,
         numerators,

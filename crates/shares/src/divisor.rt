@@ -27,11 +27,11 @@ pub fn common_divisor(base: u64, numerators: &[u64]) -> u64
     ensures { result ≡ gcd_of base numerators.now }
 {
     let mut common = base;
-    for i in 0..numerators.len() {
+    for x in numerators {
         if common == 1 {
             return 1;
         }
-        common = divisor(numerators[i], common);
+        common = divisor(*x, common);
     }
     common
 }
@@ -48,8 +48,8 @@ fn divide(by: u64, numerators: &mut [u64])
     requires { 0 < by }
     ensures { numerators.new ≡ divided by numerators.old }
 {
-    for i in 0..numerators.len() {
-        numerators[i] = quotient(numerators[i], by);
+    for x in numerators {
+        *x = quotient(*x, by);
     }
 }
 

@@ -2,8 +2,6 @@
 #![tactic(auto)]
 
 pub mod arithmetic;
-pub mod count;
 pub mod divisor;
-mod numerator;
 pub mod port;
 pub mod reason;

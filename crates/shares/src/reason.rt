@@ -1,25 +1,25 @@
 // The reasons of a plan's cells.
-ghost use Rattle.std.specs.Prelude.{◌≡◌, ◌*◌, ◌<◌, length};
+ghost use Rattle.std.specs.Prelude.{◌≡◌, ◌*◌, ◌<◌, get_or};
 ghost use Rattle.worked.specs.Overwritten.{overwritten};
+ghost use Rattle.worked.specs.Port.{input_port};
 ghost use Rattle.worked.specs.Reason.{holds, reason_from, reason_given, reason_in, reasons_at};
 ghost use Rattle.worked.specs.Saturated.{ports};
 
 use crate::arithmetic::times;
-use crate::count::ports;
-use crate::numerator::numerator;
 use crate::port::input_port;
-use switch::entry::entry;
-use switch::port::Input;
+use switch::port::{Input, Output, cell};
+use switch::request::Request;
 use worked::port::Port;
 
+// Reasons are these numbers and no enum: the format of a plan's file fixes them, and a file may hold any byte in their place.
 // The flow has its demand.
-const MET: u8 = 0;
+pub const MET: u8 = 0;
 
 // Its input holds it back.
-const INPUT: u8 = 1;
+pub const INPUT: u8 = 1;
 
 // Its input does not, so that its output does.
-const OUTPUT: u8 = 2;
+pub const OUTPUT: u8 = 2;
 
 // The port is a bottleneck of a flow that has `x` over `base`.
 pub fn holds(port: Port, capacity: u32, demand: u32, base: u64, x: u64) -> bool
@@ -48,46 +48,27 @@ pub fn reason(input: Port, capacity: u32, demand: u32, base: u64, x: u64) -> u8
     reason_of(full, input.most, times(demand, base), x)
 }
 
-// Fills the used cells of input `u`, which is known already.
-fn fill_row(
-    n: u32,
-    input: Port,
-    capacity: u32,
-    demands: &[u32],
-    base: u64,
-    numerators: &[u64],
-    u: u32,
-    table: &mut [u8],
-)
-    requires { (u < 8) × (length table.old ≡ 64) }
-    ensures { table.new ≡ overwritten (8 * u) (ports n) (reason_in input capacity demands.now base numerators.now) table.old }
+// Fills the used cells of input `u`.
+fn fill_row(request: &Request, base: u64, numerators: &[u64; 64], u: Input, table: &mut [u8; 64])
+    requires { u.0 < 8 }
+    ensures { table.new ≡ overwritten (8 * u.0) (ports request.now.n) (reason_in (input_port request.now.n numerators.now u) (get_or request.now.inputs u.0 0) request.now.demands base numerators.now) table.old }
 {
-    let full = input.sum == times(capacity, base);
-    let most = input.most;
-    let from = 8 * (u as u64);
-    for v in 0..ports(n) {
-        let cell = from + v as u64;
-        let asked = times(entry(demands, cell, 0), base);
-        table[cell as usize] = reason_of(full, most, asked, numerator(numerators, cell));
+    let input = input_port(request.n, numerators, u);
+    let full = input.sum == times(request.inputs[u.0 as usize], base);
+    for v in 0..request.n.min(8) {
+        let c = cell(u, Output(v)) as usize;
+        let asked = times(request.demands[c], base);
+        table[c] = reason_of(full, input.most, asked, numerators[c]);
     }
 }
 
 // Only used cells are walked over: the others keep the 0 that the table starts with, which is their reason.
-pub fn reasons(
-    m: u32,
-    n: u32,
-    inputs: &[u32],
-    demands: &[u32],
-    base: u64,
-    numerators: &[u64],
-) -> [u8; 64]
-    ensures { result ≡ reasons_at m n inputs.now demands.now base numerators.now }
+pub fn reasons(request: &Request, base: u64, numerators: &[u64; 64]) -> [u8; 64]
+    ensures { result ≡ reasons_at request.now.m request.now.n request.now.inputs request.now.demands base numerators.now }
 {
-    let mut table = [0u8; 64];
-    for u in 0..ports(m) {
-        let input = input_port(n, numerators, Input(u));
-        let capacity = entry(inputs, u as u64, 0);
-        fill_row(n, input, capacity, demands, base, numerators, u, &mut table);
+    let mut table = [MET; 64];
+    for u in 0..request.m.min(8) {
+        fill_row(request, base, numerators, Input(u), &mut table);
     }
     table
 }

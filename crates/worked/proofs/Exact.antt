@@ -32,7 +32,7 @@ use Rattle.worked.specs.Saturated.{capped, largest}
 use Rattle.worked.proofs.Bottlenecks.{product_below, product_exact, input_over_exact, output_over_exact, input_full_exact, output_full_exact, input_most_exact, output_most_exact}
 use Rattle.judging.specs.PlanWithin.{PlanWithin, said_reason}
 use Rattle.judging.specs.PlanRows.{reason_range_row, above_demand_row, input_over, input_over_row, output_over, output_over_row, free, no_bottleneck_row, wrong_reason_row, rate_rows}
-use Rattle.worked.specs.Worked.{scaled, input_side, output_side, level_of, range_worked, more_row, below, free_row, reason_by, reasons_row}
+use Rattle.worked.specs.Worked.{scaled, input_side, output_side, sums, level_of, range_worked, more_row, below, free_row, reason_by, reasons_row}
 use Rattle.worked.specs.Worked.{inputs_weighed, outputs_weighed, rates_worked}
 use Rattle.judging.proofs.Flows.{as_flow_row}
 
@@ -85,14 +85,12 @@ module _ (r : Request) (w : Within r) (p : Plan) (pw : PlanWithin r p) where
   unfolding entering
   entering_is u h =
       cells-list 8 _ u.0 h ∙ rw (cells-list 8 (λ i. capped (get_or r.inputs i 0 * p.base)) u.0 h)
-      (ap₂ (level_of (capped (input_capacity r u * p.base))) (cells-list 8 _ u.0 h) (cells-list 8 _ u.0 h))
 
   leaving_is : (v : Output) → v.0 < 8 → get_or leaving v.0 0
       ≡ level_of (capped (output_capacity r v * p.base)) (output_port r.m p.numerators v).sum (output_port r.m p.numerators v).most
   unfolding leaving
   leaving_is v h =
       cells-list 8 _ v.0 h ∙ rw (cells-list 8 (λ i. capped (get_or r.outputs i 0 * p.base)) v.0 h)
-      (ap₂ (level_of (capped (output_capacity r v * p.base))) (cells-list 8 _ v.0 h) (cells-list 8 _ v.0 h))
 
   -- Full, and no flow of the port larger than x.
   input_full : Input → ℕ → Bool
@@ -199,34 +197,34 @@ module _ (r : Request) (w : Within r) (p : Plan) (pw : PlanWithin r p) where
       (λ u v is. rw (row_number u v is, reason_exact u v is))
       (λ u v hu hv past. rw (nothing_asked u v hu hv past, pw.unused_rate u v hu hv past, pw.unused_reason u v hu hv past))
 
-  inputs_as_defined : row_verdict (more_row InputOver 8 (scaled 8 p.base r.inputs) (input_side r.n p.numerators).sums)
+  inputs_as_defined : row_verdict (more_row InputOver 8 (scaled 8 p.base r.inputs) (sums (input_side r.n p.numerators)))
       ≡ row_verdict (input_over_row r p)
   inputs_as_defined = same_row InputOver 8 (λ i. i) _ _ (λ i h. go i h (le_or_lt r.m i))
     where
       over : (i : ℕ) → i < 8
-          → ltb (get_or (scaled 8 p.base r.inputs) i 0) (get_or (input_side r.n p.numerators).sums i 0)
+          → ltb (get_or (scaled 8 p.base r.inputs) i 0) (get_or (sums (input_side r.n p.numerators)) i 0)
           ≡ ltb (input_capacity r (input i) * p.base) (input_total r (rates_of p) (input i))
       over i h = ap₂ ltb (cells-list 8 _ i h) (cells-list 8 _ i h) ∙ input_over_exact r w p.base p.numerators small (input i) h
 
       go : (i : ℕ) → i < 8 → (r.m ≤ i) ⊎ (i < r.m)
-          → ltb (get_or (scaled 8 p.base r.inputs) i 0) (get_or (input_side r.n p.numerators).sums i 0) ≡ input_over r p (input i)
+          → ltb (get_or (scaled 8 p.base r.inputs) i 0) (get_or (sums (input_side r.n p.numerators)) i 0) ≡ input_over r p (input i)
       go i h (inr l) = over i h ∙ sym (rw (lt-ltb i r.m l))
       go i h (inl l) =
           over i h ∙ rw (le-ltb i r.m l)
           (le-ltb (input_capacity r (input i) * p.base) (input_total r (rates_of p) (input i))
           (omega (arith, unused_input_total r w (rates_of p) blank (input i) h l)))
 
-  outputs_as_defined : row_verdict (more_row OutputOver 8 (scaled 8 p.base r.outputs) (output_side r.m p.numerators).sums)
+  outputs_as_defined : row_verdict (more_row OutputOver 8 (scaled 8 p.base r.outputs) (sums (output_side r.m p.numerators)))
       ≡ row_verdict (output_over_row r p)
   outputs_as_defined = same_row OutputOver 8 (λ i. i) _ _ (λ i h. go i h (le_or_lt r.n i))
     where
       over : (i : ℕ) → i < 8
-          → ltb (get_or (scaled 8 p.base r.outputs) i 0) (get_or (output_side r.m p.numerators).sums i 0)
+          → ltb (get_or (scaled 8 p.base r.outputs) i 0) (get_or (sums (output_side r.m p.numerators)) i 0)
           ≡ ltb (output_capacity r (output i) * p.base) (output_total r (rates_of p) (output i))
       over i h = ap₂ ltb (cells-list 8 _ i h) (cells-list 8 _ i h) ∙ output_over_exact r w p.base p.numerators small (output i) h
 
       go : (i : ℕ) → i < 8 → (r.n ≤ i) ⊎ (i < r.n)
-          → ltb (get_or (scaled 8 p.base r.outputs) i 0) (get_or (output_side r.m p.numerators).sums i 0) ≡ output_over r p (output i)
+          → ltb (get_or (scaled 8 p.base r.outputs) i 0) (get_or (sums (output_side r.m p.numerators)) i 0) ≡ output_over r p (output i)
       go i h (inr l) = over i h ∙ sym (rw (lt-ltb i r.n l))
       go i h (inl l) =
           over i h ∙ rw (le-ltb i r.n l)

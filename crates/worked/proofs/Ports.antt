@@ -12,6 +12,7 @@ use Rattle.switch.specs.Rates.{sum_to}
 use Rattle.switch.specs.Reason.{every}
 use Rattle.worked.specs.Saturated.{capped, ports}
 use Rattle.worked.specs.Port.{most_to, port_of}
+use Rattle.worked.specs.declared.port.Port.{Port}
 
 -- What is too large stays too large: a sum may be capped after every step or once at its end.
 capped_plus : (s x : ℕ) → capped (capped s + x) ≡ capped (s + x)
@@ -25,13 +26,13 @@ pub walked_none : (f : ℕ → ℕ) → Walked 0 f 0 0
 unfolding sum_to most_to
 walked_none f = (refl, refl)
 
-pub walked_more : (k : ℕ) (f : ℕ → ℕ) {sum most x sum' most' : ℕ} → Walked k f sum most → x ≡ f k → sum' ≡ capped (sum + x)
-    → most' ≡ max most x → Walked (k + 1) f sum' most'
+pub walked_more : (k : ℕ) (f : ℕ → ℕ) {sum most x : ℕ} {port : Port} → Walked k f sum most → x ≡ f k
+    → port ≡ record { sum = capped (sum + x); most = max most x } → Walked (k + 1) f port.sum port.most
 unfolding sum_to most_to
-walked_more k f so_far next summed compared =
-    rw (add-one k) (
-      summed ∙ ap₂ (λ s x. capped (s + x)) so_far.0 next ∙ capped_plus (sum_to k f) (f k),
-      compared ∙ ap₂ max so_far.1 next,
+walked_more k f so_far next taken =
+    rw (add-one k, taken) (
+      ap₂ (λ s x. capped (s + x)) so_far.0 next ∙ capped_plus (sum_to k f) (f k),
+      ap₂ max so_far.1 next,
     )
 
 pub walked_all : (n k : ℕ) (f : ℕ → ℕ) {sum most : ℕ} → k ≡ ports n → Walked k f sum most

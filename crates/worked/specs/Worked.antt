@@ -1,6 +1,7 @@
 -- Rows 10 to 15 as a program works them out in 64 bits, over all cells and eight ports on a side. For a request and a plan that
 -- have passed rows 4 to 8 they say what document 01's rows say; nobody else hears them.
-use Rattle.std.specs.Prelude.{ℕ, ◌*◌, ◌/◌, Bool, cond, not, ◌&&◌, List, [], ◌∷◌, eqb, leb, ltb, get_or}
+use Rattle.std.specs.Prelude.{ℕ, ◌*◌, ◌/◌, Bool, cond, not, ◌&&◌, List, [], ◌∷◌, eqb, leb, ltb, get_or, Option}
+use Rattle.std.specs.declared.option.Option.TheVariants.{Some, None}
 use Rattle.laws.specs.Lists.{list}
 use Rattle.switch.specs.Cells.{input, output, input_of, output_of}
 use Rattle.switch.specs.Rows.{Row, Found, at, nothing, row_verdict, verdict_of}
@@ -12,27 +13,30 @@ use Rattle.switch.specs.declared.verdict.Cause.TheVariants.{ReasonRange, AboveDe
 use Rattle.switch.specs.declared.verdict.Verdict.{Verdict}
 use Rattle.worked.specs.Port.{input_port, output_port}
 use Rattle.worked.specs.Saturated.{capped, largest}
-use Rattle.worked.specs.declared.side.Side.{Side}
+use Rattle.worked.specs.declared.port.Port.{Port}
 use Rattle.worked.specs.declared.side.Weighed.{Weighed}
 
 -- Capacities or demands over a base.
 abbrev pub scaled : ℕ → ℕ → List ℕ → List ℕ
 scaled n b xs = list n (λ i. capped (get_or xs i 0 * b))
 
--- The sums and the largest numerators of a side's ports.
-abbrev pub input_side : ℕ → List ℕ → Side
-input_side n xs = record { sums = list 8 (λ k. (input_port n xs (input k)).sum); mosts = list 8 (λ k. (input_port n xs (input k)).most) }
+-- The ports of a side by their numbers, and their sums.
+abbrev pub input_side : ℕ → List ℕ → ℕ → Port
+input_side n xs k = input_port n xs (input k)
 
-abbrev pub output_side : ℕ → List ℕ → Side
-output_side m xs = record { sums = list 8 (λ k. (output_port m xs (output k)).sum); mosts = list 8 (λ k. (output_port m xs (output k)).most) }
+abbrev pub output_side : ℕ → List ℕ → ℕ → Port
+output_side m xs k = output_port m xs (output k)
+
+abbrev pub sums : (ℕ → Port) → List ℕ
+sums side = list 8 (λ k. (side k).sum)
 
 -- From which numerator on a port holds a flow back that is below its demand: from its largest on if it is full, and otherwise
 -- from none.
 abbrev pub level_of : ℕ → ℕ → ℕ → ℕ
 level_of full sum most = cond (eqb sum full) most largest
 
-abbrev pub levels : List ℕ → Side → List ℕ
-levels full side = list 8 (λ i. level_of (get_or full i 0) (get_or side.sums i 0) (get_or side.mosts i 0))
+abbrev pub levels : List ℕ → (ℕ → Port) → List ℕ
+levels full side = list 8 (λ k. level_of (get_or full k 0) (side k).sum (side k).most)
 
 -- Row 10.
 abbrev pub range_worked : List ℕ → Row
@@ -58,10 +62,10 @@ free_row m n asked xs entering leaving =
       place = λ c. c;
     }
 
--- The cell at which the walk of row 14 ends, or 64.
-abbrev pub cell_found : Found → ℕ
-cell_found (at c) = c
-cell_found nothing = 64
+-- The cell with which the walk of row 14 is left, if it is.
+abbrev pub cell_found : Found → Option ℕ
+cell_found (at c) = Some c
+cell_found nothing = None
 
 -- Row 15: the reason of a flow, by the level of its input.
 abbrev pub reason_by : ℕ → ℕ → ℕ → ℕ
@@ -76,28 +80,27 @@ reasons_row asked xs entering reasons =
       place = λ c. c;
     }
 
--- What is asked of each side's ports.
-abbrev pub inputs_weighed : ℕ → List ℕ → ℕ → List ℕ → Weighed
-inputs_weighed n capacities b xs =
+-- What is asked of a side's ports, and of each side's.
+abbrev pub weighed : Cause → List ℕ → ℕ → (ℕ → Port) → Weighed
+weighed cause capacities b side =
     record {
-      over = row_verdict (more_row InputOver 8 (scaled 8 b capacities) (input_side n xs).sums);
-      levels = levels (scaled 8 b capacities) (input_side n xs);
+      over = row_verdict (more_row cause 8 (scaled 8 b capacities) (sums side));
+      levels = levels (scaled 8 b capacities) side;
     }
 
+abbrev pub inputs_weighed : ℕ → List ℕ → ℕ → List ℕ → Weighed
+inputs_weighed n capacities b xs = weighed InputOver capacities b (input_side n xs)
+
 abbrev pub outputs_weighed : ℕ → List ℕ → ℕ → List ℕ → Weighed
-outputs_weighed m capacities b xs =
-    record {
-      over = row_verdict (more_row OutputOver 8 (scaled 8 b capacities) (output_side m xs).sums);
-      levels = levels (scaled 8 b capacities) (output_side m xs);
-    }
+outputs_weighed m capacities b xs = weighed OutputOver capacities b (output_side m xs)
 
 -- All rows, one after the other.
 abbrev pub worked_rows : Request → Plan → List Row
 worked_rows r p =
     range_worked p.reasons
     ∷ more_row AboveDemand 64 (scaled 64 p.base r.demands) p.numerators
-    ∷ more_row InputOver 8 (scaled 8 p.base r.inputs) (input_side r.n p.numerators).sums
-    ∷ more_row OutputOver 8 (scaled 8 p.base r.outputs) (output_side r.m p.numerators).sums
+    ∷ more_row InputOver 8 (scaled 8 p.base r.inputs) (sums (input_side r.n p.numerators))
+    ∷ more_row OutputOver 8 (scaled 8 p.base r.outputs) (sums (output_side r.m p.numerators))
     ∷ free_row r.m r.n (scaled 64 p.base r.demands) p.numerators
     (inputs_weighed r.n r.inputs p.base p.numerators).levels
     (outputs_weighed r.m r.outputs p.base p.numerators).levels

@@ -11,7 +11,8 @@ rule full most demands base xs c = reason_given full most (capped (get_or demand
 
 abbrev pub invariant-loop-v : goal.invariant-loop-v
 invariant-loop-v l = record {
-  last : l.v-end ≡ ports l.n;
+  last : l.v-end ≡ ports l.request.n;
   filled :
-      l.table ≡ overwritten (8 * l.u) l.v (rule l.full l.most l.demands l.base l.numerators) l.initial.table;
+      l.table
+      ≡ overwritten (8 * l.u.0) l.v (rule l.full l.input.most l.request.demands l.base l.numerators) l.initial.table;
 }

@@ -8,25 +8,25 @@ use Rattle.shares.proofs.reason.reasons.Goals as goal
 
 pub loop-u-init : goal.loop-u-init
 unfolding list list_from
-loop-u-init c = record { last = c.ports-u-end.ensures; filled = refl }
+loop-u-init c = record { last = c.min-u-end.ensures; filled = refl }
 
 pub loop-u-preserved : goal.loop-u-preserved
 loop-u-preserved c =
     let at = c.loop-u in
-    let args = c.args in
+    let r = c.args.request.now in
     record {
       last = at.invariant.last;
       filled =
-          row_filled args.m args.n args.base args.inputs.now args.demands.now args.numerators.now
+          row_filled r.m r.n c.args.base r.inputs r.demands c.args.numerators.now
           (replicate 64 0) refl (λ k h. get_or-replicate 64 k 0 0 h) at.u (omega (arith, at.invariant.last))
-          c.input_port-input.ensures c.entry-capacity.ensures at.invariant.filled c.fill_row.ensures;
+          refl refl at.invariant.filled c.fill_row.ensures;
     }
 
 pub returns : goal.returns
 returns c =
     let at = c.loop-u in
-    let args = c.args in
-    let all : at.u ≡ ports args.m = omega (arith, at.invariant.last) in
+    let r = c.args.request.now in
+    let all : at.u ≡ ports r.m = omega (arith, at.invariant.last) in
     rw all at at.invariant.filled
-    ∙ rows_filled args.m args.n args.base args.inputs.now args.demands.now args.numerators.now
+    ∙ rows_filled r.m r.n c.args.base r.inputs r.demands c.args.numerators.now
     (replicate 64 0) refl (λ k h. get_or-replicate 64 k 0 0 h)
