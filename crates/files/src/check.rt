@@ -5,7 +5,7 @@ ghost use Rattle.formats.specs.PlanFile.{check_verdict};
 use crate::format::{base_rows, zeros_row};
 use crate::read::{plan_in, request_in};
 use crate::rows::frame_rows;
-use checker::rates::rates;
+use crate::standin::rates;
 use requests::check::check as check_request;
 use switch::verdict::Verdict;
 

@@ -38,7 +38,8 @@ impl Content for Request {
 }
 
 // A half of a plan, which has a block of its own.
-pub struct Part<'a> {
+#[derive(Clone, Copy)]
+pub struct PlanHalf<'a> {
     pub plan: &'a Plan,
     pub half: Half,
 }
@@ -56,8 +57,8 @@ fn high(x: u64) -> u32
     (x / 4_294_967_296) as u32
 }
 
-impl Content for Part<'_> {
-    ghost said = { λ part. plan_word part.plan.now (half_number part.half) };
+impl Content for PlanHalf<'_> {
+    ghost said = { λ h. plan_word h.plan.now (half_number h.half) };
 
     // Reasons are bytes, so that word k of them is four reasons.
     #[tactic(auto, unfolding(formats::specs::PlanFile::plan_word, words::specs::Words::word_at))]

@@ -3,9 +3,9 @@ ghost use Rattle.std.specs.Prelude.{◌≡◌, ◌++◌, ◌≤◌, length, drop
 ghost use Rattle.formats.specs.PlanFile.{plan_file, plan_written};
 ghost use Rattle.formats.specs.Writing.{write_verdict};
 
-use crate::layout::{Part, write_block};
+use crate::layout::{PlanHalf, write_block};
 use crate::rows::room_row;
-use planner::plan::plan;
+use crate::standin::plan;
 use switch::plan::{Half, Plan, Planned};
 use switch::request::Request;
 use switch::verdict::Verdict;
@@ -16,12 +16,13 @@ fn write_blocks(request: &Request, plan: &Plan, buffer: &mut [u8])
     ensures { buffer.new ≡ plan_file request.now plan.now ++ drop 1536 buffer.old }
 {
     write_block(request, 0, buffer);
-    write_block(&Part { plan, half: Half::First }, 1, buffer);
-    write_block(&Part { plan, half: Half::Second }, 2, buffer);
+    write_block(&PlanHalf { plan, half: Half::First }, 1, buffer);
+    write_block(&PlanHalf { plan, half: Half::Second }, 2, buffer);
 }
 
 // Works a request's plan out and writes both into the first 1,536 bytes: rows 4 to 7, then 16. Nothing is written before all
 // of them accept.
+#[tactic(auto, using(switch::proofs::Answer::plan_within, switch::proofs::Within::within_of_accepted), unfolding(switch::specs::Rows::verdict_of))]
 pub fn write_plan(request: Request, buffer: &mut [u8]) -> Verdict
     ensures value { result ≡ write_verdict 1536 request buffer.old }
     ensures buffer_after { buffer.new ≡ plan_written request buffer.old }

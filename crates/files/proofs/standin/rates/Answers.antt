@@ -1,0 +1,4 @@
+use Rattle.files.proofs.standin.rates.Goals as goal
+
+pub returns : goal.returns
+returns c = ?
