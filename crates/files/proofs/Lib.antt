@@ -1,5 +1,6 @@
 -- What the readers, the check of a plan file and the writers rest on beside their rows.
+pub mod Checked
+pub mod Judged_standin
 pub mod Made
 pub mod Reading
 pub mod Refusing
-pub mod Saved

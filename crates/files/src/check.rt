@@ -1,24 +1,37 @@
 // The check of a plan file.
-ghost use Rattle.std.specs.Prelude.{◌≡◌};
-ghost use Rattle.formats.specs.PlanFile.{check_verdict};
+ghost use Rattle.std.specs.Prelude.{◌≡◌, [], ◌∷◌};
+ghost use Rattle.switch.specs.RequestRows.{request_verdict};
+ghost use Rattle.switch.specs.Rows.{joined, row_verdict, or_else, verdict_of};
+ghost use Rattle.judging.specs.PlanRows.{half_not_zero, base_row};
+ghost use Rattle.worked.specs.Worked.{rates_worked};
+ghost use Rattle.formats.specs.FileRows.{spare_row};
+ghost use Rattle.formats.specs.PlanFile.{base_in, base_differs_row, check_verdict};
 
 use crate::format::{base_rows, zeros_row};
 use crate::read::{plan_in, request_in};
 use crate::rows::frame_rows;
 use crate::standin::rates;
 use requests::check::check as check_request;
+use switch::plan::Plan;
+use switch::request::Request;
 use switch::verdict::Verdict;
 
-// Rows 1 to 15: the first that refuses counts. The length is asked first, although any bytes could be read: the compiler then
+// Rows 4 to 15, of a file's blocks and of the request and the plan that were read there.
+fn content_rows(file: &[u8], request: &Request, plan: &Plan) -> Verdict
+    ensures { result ≡ or_else (request_verdict request.now) (or_else (row_verdict (joined (spare_row 0 83 44 file.now) (joined (joined (half_not_zero request.now plan.now 0) (spare_row 1 75 52 file.now)) (joined (half_not_zero request.now plan.now 1) (spare_row 2 75 52 file.now))))) (or_else (verdict_of (base_row (base_in file.now 0) ∷ base_differs_row file.now ∷ [])) (rates_worked request.now plan.now))) }
+{
+    check_request(*request)?;
+    zeros_row(file, request, plan)?;
+    base_rows(file)?;
+    rates(request, plan)
+}
+
+// The first row that refuses counts. The length is asked before anything is read, although any bytes could be: the compiler then
 // knows that the words are there, and leaves out the test of each.
+#[tactic(auto, using(crate::proofs::Checked::frame_refuses, crate::proofs::Checked::content_decides))]
 pub fn check(file: &[u8]) -> Verdict
     ensures { result ≡ check_verdict file.now }
 {
     frame_rows(file, &[1, 2, 3])?;
-    let request = request_in(file);
-    let plan = plan_in(file);
-    check_request(request)?;
-    zeros_row(file, &request, &plan)?;
-    base_rows(file)?;
-    rates(&request, &plan)
+    content_rows(file, &request_in(file), &plan_in(file))
 }

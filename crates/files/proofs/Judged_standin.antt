@@ -1,0 +1,30 @@
+-- The chain in which a program asks the rows of a request with a plan says what the rows say.
+use mathlib.Core.List.{[], ◌∷◌}
+use mathlib.Core.Path.{◌≡◌, refl, sym, ◌∙◌, ap}
+use Rattle.switch.specs.RequestRows.{ports_row, capacity_row, demand_row, not_zero_row, request_verdict}
+use Rattle.switch.specs.Rows.{joined, row_verdict, or_else, verdict_of}
+use Rattle.switch.specs.Within.{Within}
+use Rattle.switch.specs.declared.plan.Plan.{Plan}
+use Rattle.switch.specs.declared.request.Request.{Request}
+use Rattle.switch.specs.declared.verdict.Verdict.{Verdict}
+use Rattle.switch.specs.declared.verdict.Verdict.TheVariants.{Accepted}
+use Rattle.switch.proofs.Rows.{or_else_assoc, or_else_under, accepts_both, verdict_append, joined_verdict, verdict_joined, row_accepted_exactly}
+use Rattle.switch.proofs.Within.{within_of_accepted}
+use Rattle.judging.specs.PlanWithin.{PlanWithin}
+use Rattle.judging.specs.PlanRows.{half_not_zero, base_row, rate_rows, judged}
+use Rattle.worked.specs.Worked.{rates_worked}
+use Rattle.judging.proofs.Accepted.{plan_within_of_silent}
+use Rattle.worked.proofs.Exact.{worked_as_defined}
+
+-- What is worked out is heard only of a request and a plan within their limits.
+pub rates_heard : (v : Verdict) (r : Request) (p : Plan) → (v ≡ Accepted → Within r × PlanWithin r p)
+    → or_else v (rates_worked r p) ≡ or_else v (verdict_of (rate_rows r p))
+rates_heard v r p within = or_else_under v (λ e. worked_as_defined r (within e).0 p (within e).1)
+
+-- The verdicts of rows 7, from the plan's cells on, and 8.
+pub plan_within_of_accepted : (r : Request) (p : Plan) → row_verdict (half_not_zero r p 0) ≡ Accepted
+    → row_verdict (half_not_zero r p 1) ≡ Accepted → row_verdict (base_row p.base) ≡ Accepted → PlanWithin r p
+plan_within_of_accepted r p first second base =
+    plan_within_of_silent r p ((row_accepted_exactly (half_not_zero r p 0)).0 first)
+    ((row_accepted_exactly (half_not_zero r p 1)).0 second) ((row_accepted_exactly (base_row p.base)).0 base)
+
