@@ -28,7 +28,6 @@ fn content_rows(file: &[u8], request: &Request, plan: &Plan) -> Verdict
 
 // The first row that refuses counts. The length is asked before anything is read, although any bytes could be: the compiler then
 // knows that the words are there, and leaves out the test of each.
-#[tactic(auto, using(crate::proofs::Checked::frame_refuses, crate::proofs::Checked::content_decides))]
 pub fn check(file: &[u8]) -> Verdict
     ensures { result ≡ check_verdict file.now }
 {
