@@ -21,7 +21,7 @@ use Rattle.worked.specs.Worked.{rates_worked}
 use Rattle.files.proofs.Judged_standin.{rates_heard, plan_within_of_accepted}
 use Rattle.formats.specs.FileRows.{length_row, check_row, kind_row, spare_row}
 use Rattle.formats.specs.RequestFile.{request_in}
-use Rattle.formats.specs.PlanFile.{plan_in, base_differs_row, plan_file_rows, check_verdict}
+use Rattle.formats.specs.PlanFile.{base_in, plan_in, base_differs_row, plan_file_rows, check_verdict}
 
 -- Both parts of a row that accepts do.
 parts_accept : (a b : Row) → a.cause ≡ b.cause → row_verdict (joined a b) ≡ Accepted
@@ -95,11 +95,9 @@ module _ (file : List ℕ) (r : Request) (p : Plan) where
       let base = (accepts_both (row_verdict (base_row p.base)) _ based).0 in
       (within_of_accepted r own, plan_within_of_accepted r p first second base)
 
-  -- What is asked of the blocks' contents.
-  abbrev content : Verdict
-  content = or_else (request_verdict r) (or_else (row_verdict zeros) (or_else (verdict_of bases) (rates_worked r p)))
-
-  asked_in_order : verdict_of ((frame file ++ (numbers ++ bases)) ++ rate_rows r p) ≡ or_else (verdict_of (frame file)) content
+  asked_in_order : verdict_of ((frame file ++ (numbers ++ bases)) ++ rate_rows r p)
+      ≡ or_else (verdict_of (frame file))
+      (or_else (request_verdict r) (or_else (row_verdict zeros) (or_else (verdict_of bases) (rates_worked r p))))
   asked_in_order =
       verdict_append (frame file ++ (numbers ++ bases)) (rate_rows r p)
       ∙ ap (λ (v : Verdict). or_else v (verdict_of (rate_rows r p))) (sym format_in_order)
@@ -109,6 +107,13 @@ module _ (file : List ℕ) (r : Request) (p : Plan) where
         or_else_assoc (or_else (request_verdict r) (row_verdict zeros)) (verdict_of bases) (rates_worked r p),
         or_else_assoc (request_verdict r) (row_verdict zeros) (or_else (verdict_of bases) (rates_worked r p)),
       )
+
+-- What is asked of the blocks' contents.
+abbrev content : List ℕ → Request → Plan → Verdict
+content file r p =
+    or_else (request_verdict r)
+    (or_else (row_verdict (zeros file r p))
+    (or_else (verdict_of (base_row (base_in file 0) ∷ base_differs_row file ∷ [])) (rates_worked r p)))
 
 checked_as_asked : (file : List ℕ)
     → check_verdict file ≡ or_else (verdict_of (frame file)) (content file (request_in file) (plan_in file))
