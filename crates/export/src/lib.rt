@@ -2,5 +2,4 @@
 // this library the marks of an export only say what they are for.
 #![tactic(auto)]
 
-pub mod calls;
 mod code;

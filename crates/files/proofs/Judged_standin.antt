@@ -27,4 +27,3 @@ pub plan_within_of_accepted : (r : Request) (p : Plan) → row_verdict (half_not
 plan_within_of_accepted r p first second base =
     plan_within_of_silent r p ((row_accepted_exactly (half_not_zero r p 0)).0 first)
     ((row_accepted_exactly (half_not_zero r p 1)).0 second) ((row_accepted_exactly (base_row p.base)).0 base)
-

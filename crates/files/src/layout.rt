@@ -12,7 +12,8 @@ use switch::entry::entry;
 use switch::plan::{Half, Plan};
 use switch::request::Request;
 
-// What a block holds in its words 0 to 126.
+// What a block holds in its words 0 to 126. The rules below test one end after the other: from a `match` on the word's number the
+// compiler makes a table of jumps, and a block costs half as much again to write.
 pub trait Content {
     ghost said: { Self → ℕ → ℕ };
 
@@ -25,14 +26,20 @@ impl Content for Request {
 
     #[tactic(auto, unfolding(formats::specs::RequestFile::request_word))]
     fn said(&self, i: u64) -> u32 {
-        match i {
-            0 => 1,
-            1 => self.m,
-            2 => self.n,
-            3..=10 => entry(&self.inputs, i - 3, 0),
-            11..=18 => entry(&self.outputs, i - 11, 0),
-            19..=82 => entry(&self.demands, i - 19, 0),
-            _ => 0,
+        if i < 1 {
+            1
+        } else if i < 2 {
+            self.m
+        } else if i < 3 {
+            self.n
+        } else if i < 11 {
+            entry(&self.inputs, i - 3, 0)
+        } else if i < 19 {
+            entry(&self.outputs, i - 11, 0)
+        } else if i < 83 {
+            entry(&self.demands, i - 19, 0)
+        } else {
+            0
         }
     }
 }
@@ -63,17 +70,20 @@ impl Content for PlanHalf<'_> {
     // Reasons are bytes, so that word k of them is four reasons.
     #[tactic(auto, unfolding(formats::specs::PlanFile::plan_word, words::specs::Words::word_at))]
     fn said(&self, i: u64) -> u32 {
-        let half = self.half.number();
-        let from = u64::from(half);
-        let rate = |k: u64| entry(&self.plan.numerators, 32 * from + k / 2, 0);
-        match i {
-            0 => 2 + half,
-            1 => low(self.plan.base),
-            2 => high(self.plan.base),
-            3..=66 if i % 2 == 1 => low(rate(i - 3)),
-            3..=66 => high(rate(i - 3)),
-            67..=74 => word(&self.plan.reasons, 8 * from + (i - 67)),
-            _ => 0,
+        let half = u64::from(self.half.number());
+        if i < 1 {
+            2 + self.half.number()
+        } else if i < 2 {
+            low(self.plan.base)
+        } else if i < 3 {
+            high(self.plan.base)
+        } else if i < 67 {
+            let rate = entry(&self.plan.numerators, 32 * half + (i - 3) / 2, 0);
+            if i % 2 == 1 { low(rate) } else { high(rate) }
+        } else if i < 75 {
+            word(&self.plan.reasons, 8 * half + (i - 67))
+        } else {
+            0
         }
     }
 }

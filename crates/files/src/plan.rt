@@ -16,8 +16,22 @@ fn write_blocks(request: &Request, plan: &Plan, buffer: &mut [u8])
     ensures { buffer.new ≡ plan_file request.now plan.now ++ drop 1536 buffer.old }
 {
     write_block(request, 0, buffer);
-    write_block(&PlanHalf { plan, half: Half::First }, 1, buffer);
-    write_block(&PlanHalf { plan, half: Half::Second }, 2, buffer);
+    write_block(
+        &PlanHalf {
+            plan,
+            half: Half::First,
+        },
+        1,
+        buffer,
+    );
+    write_block(
+        &PlanHalf {
+            plan,
+            half: Half::Second,
+        },
+        2,
+        buffer,
+    );
 }
 
 // Works a request's plan out and writes both into the first 1,536 bytes: rows 4 to 7, then 16. Nothing is written before all

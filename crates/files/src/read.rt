@@ -1,9 +1,8 @@
 // What the blocks of a file hold, read from any bytes: past their end there is 0 to read.
-ghost use Rattle.std.specs.Prelude.{◌≡◌, ◌+◌, ◌^◌, ◌<◌, get_or};
+ghost use Rattle.std.specs.Prelude.{◌≡◌, ℕ, ◌+◌, ◌/◌, ◌%◌, ◌^◌, ◌<◌, slice_index_or};
 ghost use Rattle.laws.specs.Lists.{list};
 ghost use Rattle.words.specs.Words.{word_at};
 ghost use Rattle.switch.specs.Halves.{half_number};
-ghost use Rattle.judging.specs.Places.{low_word, high_word, reason_byte};
 ghost use Rattle.formats.specs.RequestFile.{request_in};
 ghost use Rattle.formats.specs.PlanFile.{wide, base_in, plan_in};
 
@@ -48,18 +47,19 @@ pub fn base_in(file: &[u8], half: Half) -> u64
     wide(file, 128 * (1 + u64::from(half.number())) + 1)
 }
 
-fn numerator(file: &[u8], cell: u64) -> u64
-    requires { cell < 64 }
-    ensures { result ≡ wide (word_at file.now (low_word cell)) (word_at file.now (high_word cell)) }
+// What a plan says of each cell: of a half's 32, `at` tells each by its place among them. Half by half, since a division for every
+// cell would keep the compiler from reading many words at once.
+fn cells<T: Copy, F: Fn(u64, u64) -> T>(none: T, at: F) -> [T; 64]
+    requires { (half i : ℕ) → half < 2 → i < 32 → F.pre at half i }
+    ensures { (c : ℕ) → c < 64 → F.post at (c / 32) (c % 32) (slice_index_or result c none) }
 {
-    wide(file, 128 * (1 + cell / 32) + (3 + 2 * (cell % 32)))
-}
-
-fn reason(file: &[u8], cell: u64) -> u8
-    requires { cell < 64 }
-    ensures { result ≡ get_or file.now (reason_byte cell) 0 }
-{
-    entry(file, 512 * (1 + cell / 32) + (268 + cell % 32), 0)
+    let mut table = [none; 64];
+    for half in 0..2 {
+        for i in 0..32 {
+            table[(32 * half + i) as usize] = at(half, i);
+        }
+    }
+    table
 }
 
 pub fn plan_in(file: &[u8]) -> Plan
@@ -67,7 +67,7 @@ pub fn plan_in(file: &[u8]) -> Plan
 {
     Plan {
         base: base_in(file, Half::First),
-        numerators: array::from_fn(|cell| numerator(file, cell as u64)),
-        reasons: array::from_fn(|cell| reason(file, cell as u64)),
+        numerators: cells(0, |half, i| wide(file, 128 * (1 + half) + (3 + 2 * i))),
+        reasons: cells(0, |half, i| entry(file, 512 * (1 + half) + (268 + i), 0)),
     }
 }

@@ -14,26 +14,25 @@ use requests::check::check;
 use switch::request::Request;
 use switch::verdict::Verdict;
 
-// Rows 1 to 7, of a file and the request that was read there.
+// Rows 1 to 7: the first that refuses counts.
 #[tactic(auto, unfolding(switch::specs::Rows::verdict_of))]
-fn all_rows(file: &[u8], request: Request) -> Verdict
-    ensures { result ≡ or_else (verdict_of (length_row 512 file.now ∷ check_row 1 file.now ∷ kind_row (1 ∷ []) file.now ∷ [])) (or_else (request_verdict request) (row_verdict (spare_row 0 83 44 file.now))) }
+fn all_rows(file: &[u8]) -> Verdict
+    ensures { result ≡ or_else (verdict_of (length_row 512 file.now ∷ check_row 1 file.now ∷ kind_row (1 ∷ []) file.now ∷ [])) (or_else (request_verdict (request_in file.now)) (row_verdict (spare_row 0 83 44 file.now))) }
 {
     frame_rows(file, &[1])?;
-    check(request)?;
+    check(request_in(file))?;
     spare_row(file, 0, 83..127)
 }
 
-// Reads a request file. Any bytes can be read, since past their end there is 0 to read; but what a refused file holds is not
+// Reads a request file. Any bytes could be read, since past their end there is 0 to read; but what a refused file holds is not
 // handed back.
 #[tactic(auto, using(crate::proofs::Reading::read_in_order))]
 pub fn read_request(file: &[u8]) -> RequestRead
     ensures { result ≡ request_read file.now }
 {
-    let request = request_in(file);
-    let verdict = all_rows(file, request);
+    let verdict = all_rows(file);
     let request = match verdict {
-        Verdict::Accepted => request,
+        Verdict::Accepted => request_in(file),
         Verdict::Refused(_) => Request::zero(),
     };
     RequestRead { verdict, request }

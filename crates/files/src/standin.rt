@@ -32,5 +32,8 @@ pub fn plan(request: Request) -> Planned
     ensures value { result ≡ planned request }
     ensures promised { Promised request result }
 {
-    Planned { verdict: Verdict::Accepted, plan: Plan::empty() }
+    Planned {
+        verdict: Verdict::Accepted,
+        plan: Plan::empty(),
+    }
 }
