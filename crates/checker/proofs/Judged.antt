@@ -47,7 +47,7 @@ module _ (r : Request) (p : Plan) where
       let (first, second) = accepts_both (row_verdict (half_not_zero r p 0)) _ plan in
       (within_of_accepted r own, plan_within_of_accepted r p first second base)
 
-  pub judged_as_asked : or_else (or_else (request_verdict r) (or_else (row_verdict (half_not_zero r p 0)) (row_verdict (half_not_zero r p 1))))
+  judged_as_asked : or_else (or_else (request_verdict r) (or_else (row_verdict (half_not_zero r p 0)) (row_verdict (half_not_zero r p 1))))
       (or_else (row_verdict (base_row p.base)) (rates_worked r p)) ≡ judged r p
   unfolding verdict_of numbers
   judged_as_asked =
@@ -57,3 +57,9 @@ module _ (r : Request) (p : Plan) where
       ∙ ap (λ (v : Verdict). or_else v (verdict_of (base_row p.base ∷ rate_rows r p))) (sym numbers_as_defined)
       ∙ sym (verdict_append (ports_row r ∷ capacity_row r ∷ demand_row r
       ∷ joined (not_zero_row r) (joined (half_not_zero r p 0) (half_not_zero r p 1)) ∷ []) (base_row p.base ∷ rate_rows r p))
+
+  -- The rows are asked one after the other, and the first that refuses counts.
+  pub judged_by : {own first second base rates : Verdict} → own ≡ request_verdict r → first ≡ row_verdict (half_not_zero r p 0)
+      → second ≡ row_verdict (half_not_zero r p 1) → base ≡ row_verdict (base_row p.base) → rates ≡ rates_worked r p
+      → or_else (or_else own (or_else first second)) (or_else base rates) ≡ judged r p
+  judged_by o f s b e = rw (o, f, s, b, e) judged_as_asked

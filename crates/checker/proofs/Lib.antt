@@ -1,4 +1,5 @@
 -- What follows from how the checker works its rows out.
-pub mod Weighed
+pub mod Searches
 pub mod Unused
+pub mod Sides
 pub mod Judged

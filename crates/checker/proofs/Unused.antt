@@ -1,71 +1,94 @@
--- The unused cells of a half of the plan, input by input: what a search of an input's says of the row.
-use Prim.Native.Nat.{ℕ, ◌+◌, ◌-◌, ◌*◌, ◌≤◌, ◌<◌}
-use mathlib.Core.Path.{◌≡◌, sym, ◌∙◌, ap, subst}
-use mathlib.Core.Bool.{true, false, not}
-use mathlib.Core.List.{List}
+-- The unused cells of a half of the plan, input by input: what a search of an input's says of the half's row.
+use Prim.Native.Nat.{ℕ, zero, suc, ◌+◌, ◌-◌, ◌*◌, ◌≤◌, ◌<◌}
+use mathlib.Core.Path.{◌≡◌, refl, sym, ◌∙◌, ap, subst}
+use mathlib.Core.Bool.{Bool, true, false, not, ◌&&◌}
 use mathlib.Core.Logic.{◌⊎◌, inl, inr}
 use native.Mathlib.Omega.{arith}
-use lib.Dec.{ltb}
-use lib.ListN.{get_or}
+use lib.Dec.{eqb, ltb}
 use borrow.Author.Tests.{lt-ltb, le-ltb}
+use Rattle.std.proofs.Common.{ne_eqb}
+use Rattle.std.specs.Prelude.{Option}
+use Rattle.std.specs.declared.option.Option.TheVariants.{Some, None}
 use Rattle.laws.proofs.Search.{le_or_lt}
-use Rattle.switch.specs.RequestRows.{above}
+use Rattle.switch.specs.Halves.{half_number}
 use Rattle.switch.specs.Rows.{Row, refusal, row_verdict}
-use Rattle.switch.specs.Tables.{used_at, used_end, FirstAbove}
-use Rattle.switch.specs.declared.verdict.Cause.TheVariants.{NotZero}
-use Rattle.switch.proofs.Search.{Passed, Sought, sought_more, sought_refuses}
+use Rattle.switch.specs.Tables.{used_at, used_end}
+use Rattle.switch.specs.declared.plan.Half.{Half}
+use Rattle.switch.specs.declared.plan.Half.TheVariants.{First, Second}
+use Rattle.switch.specs.declared.verdict.Verdict.TheVariants.{Accepted}
+use Rattle.switch.proofs.Search.{passed_none, passed_on, row_refuses, row_accepts}
 use Rattle.switch.proofs.Stretch.{used_before_end}
 use Rattle.judging.specs.PlanRows.{cell_in}
+use Rattle.checker.specs.Found.{FirstThat}
 
-module _ (m n half : ℕ) (xs : List ℕ) (place : ℕ → ℕ) where
-  -- The row of the half's unused cells that are not 0 in a table.
-  abbrev pub unused_row : Row
-  unused_row =
-      record {
-        cause = NotZero;
-        size = 32;
-        offends = λ k. above (not (used_at m n (cell_in half k))) 0 (get_or xs (cell_in half k) 0);
-        place = λ k. place (cell_in half k);
-      }
+pub half_below : (half : Half) → half_number half < 2
+half_below First = omega arith
+half_below Second = omega arith
 
-  -- The search of the unused cells of the half's input i.
-  module _ (i : ℕ) {end c : ℕ} (low : half < 2) (few : i < 4) (ends : end ≡ used_end m n (4 * half + i))
-      (f : FirstAbove 0 end (8 * (4 * half + i) + 8) xs c) where
-    split : (x : ℕ) → 8 * (4 * half + i) ≤ x → x < 8 * (4 * half + i) + 8 → used_at m n x ≡ ltb x end
-    split x l h = used_before_end m n (4 * half + i) x (omega arith) l h ∙ ap (ltb x) (sym ends)
+pub above_zero : (x : ℕ) → ltb 0 x ≡ not (eqb x 0)
+above_zero zero = refl
+above_zero (suc x) = lt-ltb 0 (suc x) (omega arith) ∙ sym (ap not (ne_eqb (suc x) 0 (omega arith)))
 
-    passes : (k : ℕ) → 8 * i ≤ k → k < 8 * i + 8 → k < c - 32 * half → unused_row.offends k ≡ false
-    passes k l h before = go (le_or_lt end (cell_in half k))
+-- A cell that is unused and passes the test.
+abbrev pub unused_that : ℕ → ℕ → (ℕ → Bool) → ℕ → Bool
+unused_that m n test k = not (used_at m n k) && test k
+
+-- The search of the unused cells of input u, which begin at `end`, goes on where others have passed.
+module _ (m n u : ℕ) {end : ℕ} (low : u < 8) (ends : end ≡ used_end m n u) (test : ℕ → Bool) where
+  split : (k : ℕ) → 8 * u ≤ k → k < 8 * u + 8 → used_at m n k ≡ ltb k end
+  split k l h = used_before_end m n u k low l h ∙ ap (ltb k) (sym ends)
+
+  passes : (k : ℕ) → 8 * u ≤ k → k < 8 * u + 8 → (end ≤ k → test k ≡ false) → unused_that m n test k ≡ false
+  passes k l h none = go (le_or_lt end k)
+    where
+      go : (end ≤ k) ⊎ (k < end) → unused_that m n test k ≡ false
+      go (inl past) = rw (split k l h ∙ le-ltb k end past, none past)
+      go (inr used) = rw (split k l h ∙ lt-ltb k end used)
+
+  offends : (k : ℕ) → end ≤ k → k < 8 * u + 8 → test k ≡ true → unused_that m n test k ≡ true
+  offends k past h here = rw (split k (omega (arith, ends)) h ∙ le-ltb k end past, here)
+
+  module _ (first : ℕ) (passed : (k : ℕ) → first ≤ k → k < 8 * u → unused_that m n test k ≡ false) where
+    up_to : (last : ℕ) → last ≤ 8 * u + 8 → ((k : ℕ) → end ≤ k → k < last → test k ≡ false)
+        → (k : ℕ) → first ≤ k → k < last → unused_that m n test k ≡ false
+    up_to last within none k l h = go (le_or_lt (8 * u) k)
       where
-        go : (end ≤ cell_in half k) ⊎ (cell_in half k < end) → unused_row.offends k ≡ false
-        go (inl past) =
-            rw (
-              split (cell_in half k) (omega arith) (omega arith) ∙ le-ltb _ _ past,
-              le-ltb 0 _ (f.earlier (cell_in half k) past (omega arith) (omega arith)),
-            )
-        go (inr used) = rw (split (cell_in half k) (omega arith) (omega arith) ∙ lt-ltb _ _ used)
+        go : (8 * u ≤ k) ⊎ (k < 8 * u) → unused_that m n test k ≡ false
+        go (inl here) = passes k here (omega arith) (λ past. none k past h)
+        go (inr before) = passed k l before
 
-    -- A cell that was found is one of the half's.
-    in_half : c < 64 → cell_in half (c - 32 * half) ≡ c
-    in_half h = omega (arith, ends, (f.here h).0)
+    pub unused_more : (found : Option ℕ) → found ≡ None → FirstThat end (8 * u + 8) test found
+        → (k : ℕ) → first ≤ k → k < 8 * (u + 1) → unused_that m n test k ≡ false
+    unused_more found e none k l h =
+        up_to (8 * u + 8) (omega arith) (subst (FirstThat end (8 * u + 8) test) e none) k l (omega arith)
 
-    sought : Sought unused_row (8 * i) (8 * i + 8) (c - 32 * half)
-    sought =
-        record {
-          earlier = passes;
-          here = λ h.
-              let small : c < 64 = omega arith in
-              let found = f.here small in (
-                omega (arith, ends, found.0),
-                omega (arith, found.1),
-                subst (λ x. above (not (used_at m n x)) 0 (get_or xs x 0) ≡ true) (sym (in_half small))
-                    (rw (split c (omega (arith, ends, found.0)) found.1 ∙ le-ltb _ _ found.0, lt-ltb 0 _ found.2)),
-              );
-        }
+    pub unused_found : (last c : ℕ) (found : Option ℕ) → found ≡ Some c → FirstThat end (8 * u + 8) test found → first ≤ 8 * u
+        → 8 * u + 8 ≤ last → FirstThat first last (unused_that m n test) (Some c)
+    unused_found last c found e sought begun within =
+        let (past, inside, here, before) = subst (FirstThat end (8 * u + 8) test) e sought in (
+          omega (arith, ends),
+          omega arith,
+          offends c past inside here,
+          up_to c (omega arith) before,
+        )
 
-    pub unused_more : Passed unused_row (8 * i) → 64 ≤ c → Passed unused_row (8 * (i + 1))
-    unused_more p past = subst (Passed unused_row) (omega arith) (sought_more p sought (omega arith) (omega arith))
+-- What the search of a half's cells says of a row of them.
+module _ (row : Row) (half : ℕ) (test : ℕ → Bool) (size : row.size ≡ 32)
+    (same : (k : ℕ) → k < 32 → row.offends k ≡ test (cell_in half k)) where
+  pub half_accepts : (found : Option ℕ) → found ≡ None → FirstThat (32 * half) (32 * half + 32) test found
+      → row_verdict row ≡ Accepted
+  half_accepts found e none =
+      let all = subst (FirstThat (32 * half) (32 * half + 32) test) e none in
+      row_accepts
+      (passed_on row.size (passed_none row) (omega arith)
+      (λ k l h. same k (omega arith) ∙ all (cell_in half k) (omega arith) (omega arith))) (omega arith)
 
-    pub unused_refuses : Passed unused_row (8 * i) → c < 64 → row_verdict unused_row ≡ refusal NotZero (place c)
-    unused_refuses p h =
-        sought_refuses p sought (omega (arith, (f.here h).1)) ∙ ap (λ x. refusal NotZero (place x)) (in_half h)
+  pub half_refuses : (c : ℕ) (found : Option ℕ) → found ≡ Some c → FirstThat (32 * half) (32 * half + 32) test found
+      → row_verdict row ≡ refusal row.cause (row.place (c - 32 * half))
+  half_refuses c found e sought =
+      let (low, high, here, before) = subst (FirstThat (32 * half) (32 * half + 32) test) e sought in
+      let at : cell_in half (c - 32 * half) ≡ c = omega arith in
+      row_refuses
+      (passed_on (c - 32 * half) (passed_none row) (omega arith)
+      (λ k l h. same k (omega arith) ∙ before (cell_in half k) (omega arith) (omega arith))) (omega arith)
+      (same (c - 32 * half) (omega arith) ∙ subst (λ x. test x ≡ true) (sym at) here)

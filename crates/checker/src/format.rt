@@ -1,38 +1,50 @@
 // The rows that a plan's numbers meet before its rates are looked at: 7, for its unused cells, and 8.
-ghost use Rattle.std.specs.Prelude.{◌≡◌, cond, [], ◌≤◌, ◌<◌, length};
+ghost use Rattle.std.specs.Prelude.{◌≡◌, ◌+◌, ◌*◌, ◌-◌, ◌≤◌, ◌<◌, ◌&&◌, not, get_or, position};
+ghost use Rattle.switch.specs.Halves.{half_number};
 ghost use Rattle.switch.specs.Rows.{row_verdict};
-ghost use Rattle.switch.specs.Tables.{FirstAbove, request_of};
-ghost use Rattle.judging.specs.PlanRows.{first_word, unused_rates, unused_reasons, half_not_zero, base_row, plan_with};
+ghost use Rattle.switch.specs.Tables.{used_at};
+ghost use Rattle.judging.specs.PlanRows.{first_word, unused_rates, unused_reasons, half_not_zero, base_row};
 ghost use Rattle.judging.specs.Places.{reason_word};
+ghost use Rattle.checker.specs.Found.{FirstThat};
 
-use switch::plan::Plan;
+use switch::plan::{Half, Plan};
 use switch::port::{Input, used_end};
+use switch::request::Request;
 use switch::verdict::{Cause, Verdict, refused};
 
-// The first cell from `first` on and before `last` that has a rate, or 64.
-fn first_rate(numerators: &[u64], first: u64, last: u64) -> u64
-    requires { last ≤ length numerators.now }
-    ensures { FirstAbove 0 first last numerators.now result }
+fn other<T: Copy + PartialEq>(part: &[T], none: T) -> Option<usize>
+    ensures { result ≡ position (λ x. not (T.eq x none)) part.now }
 {
-    for c in first..last {
-        if 0 < numerators[c as usize] {
-            return c;
-        }
-    }
-    64
+    part.iter().position(|x| *x != none)
 }
 
-// The same for reasons.
-fn first_reason(reasons: &[u8], first: u64, last: u64) -> u64
-    requires { last ≤ length reasons.now }
-    ensures { FirstAbove 0 first last reasons.now result }
+// The first entry from `first` on and before `last` that is not `none`.
+fn first_other<T: Copy + PartialEq>(table: &[T; 64], first: u64, last: u64, none: T) -> Option<u64>
+    requires { last ≤ 64 }
+    ensures { FirstThat first last (λ c. not (T.eq (get_or table.now c none) none)) result }
 {
-    for c in first..last {
-        if 0 < reasons[c as usize] {
-            return c;
+    let part = table.get(first as usize..last as usize)?;
+    let i = other(part, none)?;
+    Some(first + i as u64)
+}
+
+// The first unused cell of a half of the plan whose entry is not `none`. Unused cells are the last of each input's eight.
+fn first_unused<T: Copy + PartialEq>(
+    request: &Request,
+    half: Half,
+    table: &[T; 64],
+    none: T,
+) -> Option<u64>
+    ensures { FirstThat (32 * half_number half) (32 * half_number half + 32) (λ c. not (used_at request.now.m request.now.n c) && not (T.eq (get_or table.now c none) none)) result }
+{
+    let first = 4 * half.number();
+    for u in first..first + 4 {
+        let end = used_end(request.m, request.n, Input(u));
+        if let Some(c) = first_other(table, end, 8 * u64::from(u) + 8, none) {
+            return Some(c);
         }
     }
-    64
+    None
 }
 
 // The word of a cell's numerator that is not 0, the low one first.
@@ -52,49 +64,37 @@ fn reason_word(cell: u64) -> u64
     128 * (1 + cell / 32) + (67 + cell % 32 / 4)
 }
 
-// Only unused cells are looked at: they are the last of each input's eight.
-fn unused_rates(m: u32, n: u32, half: u32, numerators: &[u64]) -> Verdict
-    requires { (half < 2) × (length numerators.now ≡ 64) }
-    ensures { result ≡ row_verdict (unused_rates (request_of m n [] [] []) (plan_with 0 numerators.now []) half) }
+fn unused_rates(request: &Request, plan: &Plan, half: Half) -> Verdict
+    ensures { result ≡ row_verdict (unused_rates request.now plan.now (half_number half)) }
 {
-    for i in 0..4 {
-        let u = 4 * half + i;
-        let c = first_rate(numerators, used_end(m, n, Input(u)), 8 * u as u64 + 8);
-        if c < 64 {
-            return refused(Cause::NotZero, first_word(c, numerators[c as usize]));
-        }
+    match first_unused(request, half, &plan.numerators, 0) {
+        Some(c) => refused(Cause::NotZero, first_word(c, plan.numerators[c as usize])),
+        None => Verdict::Accepted,
     }
-    Verdict::Accepted
 }
 
-fn unused_reasons(m: u32, n: u32, half: u32, reasons: &[u8]) -> Verdict
-    requires { (half < 2) × (length reasons.now ≡ 64) }
-    ensures { result ≡ row_verdict (unused_reasons (request_of m n [] [] []) (plan_with 0 [] reasons.now) half) }
+fn unused_reasons(request: &Request, plan: &Plan, half: Half) -> Verdict
+    ensures { result ≡ row_verdict (unused_reasons request.now plan.now (half_number half)) }
 {
-    for i in 0..4 {
-        let u = 4 * half + i;
-        let c = first_reason(reasons, used_end(m, n, Input(u)), 8 * u as u64 + 8);
-        if c < 64 {
-            return refused(Cause::NotZero, reason_word(c));
-        }
+    match first_unused(request, half, &plan.reasons, 0) {
+        Some(c) => refused(Cause::NotZero, reason_word(c)),
+        None => Verdict::Accepted,
     }
-    Verdict::Accepted
 }
 
 // Row 7, for the unused cells of a half of the plan: those of block 1, or those of block 2.
-pub fn unused(m: u32, n: u32, second: bool, numerators: &[u64; 64], reasons: &[u8; 64]) -> Verdict
-    ensures { result ≡ row_verdict (half_not_zero (request_of m n [] [] []) (plan_with 0 numerators.now reasons.now) (cond second 1 0)) }
+pub fn unused(request: &Request, plan: &Plan, half: Half) -> Verdict
+    ensures { result ≡ row_verdict (half_not_zero request.now plan.now (half_number half)) }
 {
-    let half = if second { 1 } else { 0 };
-    let rates = unused_rates(m, n, half, numerators);
-    rates.or_else(unused_reasons(m, n, half, reasons))
+    unused_rates(request, plan, half)?;
+    unused_reasons(request, plan, half)
 }
 
 // Row 8.
 pub fn base_row(base: u64) -> Verdict
     ensures { result ≡ row_verdict (base_row base) }
 {
-    if (Plan::LEAST_BASE <= base) & (base <= Plan::MOST_BASE) {
+    if (Plan::LEAST_BASE..=Plan::MOST_BASE).contains(&base) {
         return Verdict::Accepted;
     }
     refused(Cause::Base, 129)

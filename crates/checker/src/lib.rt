@@ -2,6 +2,7 @@
 #![tactic(auto)]
 
 pub mod format;
+mod found;
 pub mod judge;
 pub mod rates;
 mod side;

@@ -1,109 +1,106 @@
 // What a plan gives each port of a side, held against what the ports have. No sum can pass 64 bits, whatever the numerators
 // are: sums and products stop at 2^64 - 1, and with a base of at most 2^32 a capacity or a demand times the base stays below
 // it, so that a sum that was stopped is more than any of them.
-ghost use Rattle.std.specs.Prelude.{◌≡◌, ◌<◌, length};
+ghost use Rattle.std.specs.Prelude.{◌≡◌, ◌*◌, ◌<◌, ℕ, ltb, position, length, get_or};
+ghost use Rattle.std.specs.List.{zip};
 ghost use Rattle.switch.specs.Rows.{row_verdict};
-ghost use Rattle.worked.specs.Worked.{scaled, input_side, output_side, level_of, levels, more_row, inputs_weighed, outputs_weighed};
+ghost use Rattle.worked.specs.Port.{no_port, port_of};
+ghost use Rattle.worked.specs.Worked.{scaled, sums, level_of, levels, more_row, weighed, inputs_weighed, outputs_weighed};
 
+use crate::found::refused_if;
 use shares::arithmetic::times;
-use shares::port::{input_port, output_port};
-use switch::entry::entry;
-use switch::port::{Input, Output};
-use switch::verdict::{Cause, Verdict, refused};
-use worked::side::{Side, Weighed};
-
-const LARGEST: u64 = 18_446_744_073_709_551_615;
+use shares::port::port;
+use switch::plan::Plan;
+use switch::port::{End, Input, Output};
+use switch::request::Request;
+use switch::verdict::{Cause, Verdict};
+use worked::port::Port;
+use worked::side::Weighed;
 
 // A table of capacities or demands, over the base.
-pub fn scale(table: &[u32], base: u64, wide: &mut [u64])
-    ensures { wide.new ≡ scaled (length wide.old) base table.now }
+pub fn scaled<const N: usize>(table: &[u32; N], base: u64) -> [u64; N]
+    ensures { result ≡ scaled N base table.now }
 {
-    for i in 0..wide.len() {
-        wide[i] = times(entry(table, i as u64, 0), base);
+    let mut wide = [0; N];
+    for (i, x) in wide.iter_mut().enumerate() {
+        *x = times(table[i], base);
     }
+    wide
 }
 
-fn input_side(n: u32, numerators: &[u64]) -> Side
-    ensures { result ≡ input_side n numerators.now }
+// The ports of a side.
+fn ports<P: End>(count: u32, numerators: &[u64; 64]) -> [Port; 8]
+    ensures { (k : ℕ) → k < 8 → get_or result k no_port ≡ port_of count (λ i. get_or numerators.now (P.flow (P.numbered k) i) 0) }
 {
-    let mut sums = [0u64; 8];
-    let mut mosts = [0u64; 8];
-    for u in 0..8 {
-        let port = input_port(n, numerators, Input(u));
-        sums[u as usize] = port.sum;
-        mosts[u as usize] = port.most;
+    let mut ports = [Port { sum: 0, most: 0 }; 8];
+    for (k, one) in ports.iter_mut().enumerate() {
+        *one = port(count, numerators, P::numbered(k as u32));
     }
-    Side { sums, mosts }
-}
-
-fn output_side(m: u32, numerators: &[u64]) -> Side
-    ensures { result ≡ output_side m numerators.now }
-{
-    let mut sums = [0u64; 8];
-    let mut mosts = [0u64; 8];
-    for v in 0..8 {
-        let port = output_port(m, numerators, Output(v));
-        sums[v as usize] = port.sum;
-        mosts[v as usize] = port.most;
-    }
-    Side { sums, mosts }
+    ports
 }
 
 // From which numerator on a port holds a flow back: a port that is not full holds back none, and no flow below its demand
 // has the largest number of all.
-fn level(full: u64, sum: u64, most: u64) -> u64
-    ensures { result ≡ level_of full sum most }
+fn level(full: u64, port: Port) -> u64
+    ensures { result ≡ level_of full port.sum port.most }
 {
-    if sum == full { most } else { LARGEST }
+    if port.sum == full {
+        port.most
+    } else {
+        u64::MAX
+    }
 }
 
-fn levels(full: [u64; 8], side: Side) -> [u64; 8]
-    ensures { result ≡ levels full side }
+fn levels(full: &[u64; 8], ports: &[Port; 8]) -> [u64; 8]
+    ensures { result ≡ levels full.now (λ k. get_or ports.now k no_port) }
 {
-    let sums = side.sums;
-    let mosts = side.mosts;
-    let mut table = [0u64; 8];
-    for i in 0..8 {
-        table[i] = level(full[i], sums[i], mosts[i]);
+    let mut levels = [0; 8];
+    for (k, one) in levels.iter_mut().enumerate() {
+        *one = level(full[k], ports[k]);
     }
-    table
+    levels
+}
+
+fn more<const N: usize>(most: &[u64; N], table: &[u64; N]) -> Option<usize>
+    ensures { result ≡ position (λ pair. ltb pair.1 pair.0) (zip table.now most.now) }
+{
+    table.iter().zip(most).position(|(x, most)| most < x)
 }
 
 // The first number of a table that is more than it may be.
-pub fn more_row(cause: Cause, most: &[u64], table: &[u64]) -> Verdict
-    requires { (length most.now ≡ length table.now) × (length table.now < 4_294_967_296) }
-    ensures { result ≡ row_verdict (more_row cause (length table.now) most.now table.now) }
+pub fn more_row<const N: usize>(cause: Cause, most: &[u64; N], table: &[u64; N]) -> Verdict
+    ensures { result ≡ row_verdict (more_row cause N most.now table.now) }
 {
-    for i in 0..table.len() {
-        if most[i] < table[i] {
-            return refused(cause, i as u64);
-        }
-    }
-    Verdict::Accepted
+    refused_if(cause, more(most, table))
 }
 
-pub fn weigh_inputs(n: u32, capacities: &[u32], base: u64, numerators: &[u64]) -> Weighed
-    ensures { result ≡ inputs_weighed n capacities.now base numerators.now }
+fn sums(ports: [Port; 8]) -> [u64; 8]
+    ensures long { length result ≡ 8 }
+    ensures each { (k : ℕ) → k < 8 → get_or result k 0 ≡ (get_or ports k no_port).sum }
 {
-    let side = input_side(n, numerators);
-    let sums = side.sums;
-    let mut full = [0u64; 8];
-    scale(capacities, base, &mut full);
+    ports.map(|port| port.sum)
+}
+
+// What rows 12 to 15 ask of a side, whose ports have so many on the other side.
+fn weigh<P: End>(cause: Cause, count: u32, capacities: &[u32; 8], plan: &Plan) -> Weighed
+    ensures { result ≡ weighed cause capacities.now plan.now.base (λ k. port_of count (λ i. get_or plan.now.numerators (P.flow (P.numbered k) i) 0)) }
+{
+    let full = scaled(capacities, plan.base);
+    let ports = ports::<P>(count, &plan.numerators);
     Weighed {
-        over: more_row(Cause::InputOver, &full, &sums),
-        levels: levels(full, side),
+        over: more_row(cause, &full, &sums(ports)),
+        levels: levels(&full, &ports),
     }
 }
 
-pub fn weigh_outputs(m: u32, capacities: &[u32], base: u64, numerators: &[u64]) -> Weighed
-    ensures { result ≡ outputs_weighed m capacities.now base numerators.now }
+pub fn weigh_inputs(request: &Request, plan: &Plan) -> Weighed
+    ensures { result ≡ inputs_weighed request.now.n request.now.inputs plan.now.base plan.now.numerators }
 {
-    let side = output_side(m, numerators);
-    let sums = side.sums;
-    let mut full = [0u64; 8];
-    scale(capacities, base, &mut full);
-    Weighed {
-        over: more_row(Cause::OutputOver, &full, &sums),
-        levels: levels(full, side),
-    }
+    weigh::<Input>(Cause::InputOver, request.n, &request.inputs, plan)
+}
+
+pub fn weigh_outputs(request: &Request, plan: &Plan) -> Weighed
+    ensures { result ≡ outputs_weighed request.now.m request.now.outputs plan.now.base plan.now.numerators }
+{
+    weigh::<Output>(Cause::OutputOver, request.m, &request.outputs, plan)
 }

@@ -1,8 +1,13 @@
 -- Every public call's contract is an equation with a definition, and so it allows one outcome alone.
-use mathlib.Core.Path.{◌≡◌}
+use Prim.Native.Nat.{ℕ}
+use mathlib.Core.Path.{◌≡◌, subst}
+use mathlib.Core.List.{[], Mem, not-mem-nil}
 use Rattle.laws.proofs.Determined.{one_answer}
 use Rattle.promises.specs.Contract.{Settles}
 use Rattle.promises.specs.Calls.{BlocksCalls, SwitchCalls, RequestsCalls, SharesCalls, PlannerCalls, CheckerCalls, FilesCalls, ListingCalls, ExportCalls, Calls}
+
+nowhere : {A : Type 0} {l : ℕ} → Mem l [] → A
+nowhere m = absurd (not-mem-nil m)
 
 settles : {K : Type 0} {D Z E A : K → Type 0} {asked : (κ : K) → D κ → Type 0} {allowed : (κ : K) → D κ → Z κ → E κ → Type 0}
     {seen : (κ : K) → Z κ → E κ → A κ} {definition : (κ : K) → D κ → A κ} → ((κ : K) (a : D κ) → asked κ a)
@@ -28,7 +33,7 @@ blocks =
 switch : SwitchCalls
 switch =
     record {
-      entry = settles (λ κ a. tt) (λ κ a z e p. p);
+      entry = λ T laws copy clone dict nothing. settles (λ κ a l m. nowhere (subst (λ ls. Mem l ls) nothing m)) (λ κ a z e p. p);
       cell = settles (λ κ a. tt) (λ κ a z e p. p);
       input_of = settles (λ κ a. tt) (λ κ a z e p. p);
       output_of = settles (λ κ a. tt) (λ κ a z e p. p);
@@ -37,11 +42,15 @@ switch =
       output_limit = settles (λ κ a. tt) (λ κ a z e p. p);
       zero = settles (λ κ a. tt) (λ κ a z e p. p);
       demand = settles (λ κ a. tt) (λ κ a z e p. p);
+      input_numbered = settles (λ κ a. tt) (λ κ a z e p. p);
+      input_flow = settles (λ κ a. tt) (λ κ a z e p. p);
+      output_numbered = settles (λ κ a. tt) (λ κ a z e p. p);
+      output_flow = settles (λ κ a. tt) (λ κ a z e p. p);
+      half_number = settles (λ κ a. tt) (λ κ a z e p. p);
       empty = settles (λ κ a. tt) (λ κ a z e p. p);
       refused = settles (λ κ a. tt) (λ κ a z e p. p);
       or_else = settles (λ κ a. tt) (λ κ a z e p. p);
       number = settles (λ κ a. tt) (λ κ a z e p. p);
-      lesser = settles (λ κ a. tt) (λ κ a z e p. p);
     }
 
 requests : RequestsCalls

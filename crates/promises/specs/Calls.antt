@@ -3,11 +3,14 @@
 -- outcome, and the definition that this is. The library for C, on which no crate can stand, says of each export what `export` says of
 -- its call (tests/calls holds the two beside each other). Arguments and final states have one part for each parameter, in their order,
 -- and `now` is what a reference refers to. Of a slice that is handed back a caller sees its bytes and its place in memory, and no more.
-use Rattle.std.specs.Prelude.{◌+◌, ◌*◌, min, cond, [], get_or}
+-- Where a call takes a type T, what is said holds of every T that refers to nothing (`T.lives`), as numbers do; for other types it would
+-- also ask that what they refer to lives as long as the call.
+use Rattle.std.specs.Prelude.{◌≡◌, ◌+◌, ◌*◌, min, cond, [], get_or}
 use Rattle.fairness.specs.Divisor.{gcd, gcd_of}
 use Rattle.words.specs.Words.{word_at, with_word}
 use Rattle.words.specs.Check.{start_of, check, word_in, sealed, sealed_in}
-use Rattle.switch.specs.Cells.{cell_of, input_of, output_of, input_limit, output_limit, demand_of}
+use Rattle.switch.specs.Cells.{input, output, cell_of, input_of, output_of, input_limit, output_limit, demand_of}
+use Rattle.switch.specs.Halves.{half_number}
 use Rattle.switch.specs.Numbering.{number_of}
 use Rattle.switch.specs.RequestRows.{request_verdict}
 use Rattle.switch.specs.Rows.{refusal, or_else, row_verdict}
@@ -27,6 +30,7 @@ use Rattle.formats.specs.Writing.{write_verdict}
 use Rattle.texts.specs.Listing.{listed, listed_in}
 use Rattle.codes.specs.Code.{code_of, plan_verdict, plan_laid, choice_of}
 use Rattle.promises.specs.Contract.{Settles}
+use denote.RattleType.{RattleType}
 use Rattle.blocks.proofs.word.word.Reads as Word
 use Rattle.blocks.proofs.word.put.Reads as Put
 use Rattle.blocks.proofs.check.start_of.Reads as StartOf
@@ -40,13 +44,17 @@ use Rattle.switch.proofs.port.Output.of.Reads as OutputOf
 use Rattle.switch.proofs.port.used_end.Reads as UsedEnd
 use Rattle.switch.proofs.port.Input.limit.Reads as InputLimit
 use Rattle.switch.proofs.port.Output.limit.Reads as OutputLimit
+use Rattle.switch.proofs.port.InputEnd.numbered.Reads as InputNumbered
+use Rattle.switch.proofs.port.InputEnd.flow.Reads as InputFlow
+use Rattle.switch.proofs.port.OutputEnd.numbered.Reads as OutputNumbered
+use Rattle.switch.proofs.port.OutputEnd.flow.Reads as OutputFlow
 use Rattle.switch.proofs.request.Request.zero.Reads as Zero
 use Rattle.switch.proofs.request.Request.demand.Reads as Demand
+use Rattle.switch.proofs.plan.Half.number.Reads as HalfNumber
 use Rattle.switch.proofs.plan.Plan.empty.Reads as Empty
 use Rattle.switch.proofs.verdict.refused.Reads as Refused
 use Rattle.switch.proofs.verdict.Verdict.or_else.Reads as OrElse
 use Rattle.switch.proofs.verdict.Cause.number.Reads as Number
-use Rattle.switch.proofs.number.lesser.Reads as Lesser
 use Rattle.requests.proofs.check.check.Reads as RequestCheck
 use Rattle.shares.proofs.arithmetic.plus.Reads as Plus
 use Rattle.shares.proofs.arithmetic.times.Reads as Times
@@ -87,8 +95,10 @@ pub record BlocksCalls : Type 0 where
   pub seal : Settles Seal.Asked Seal.Post (λ κ z (_, (file, _)). file.now)
       (λ κ (start, (file, (block, _))). sealed_in start file.now block)
 
-pub record SwitchCalls : Type 0 where
-  pub entry : Settles Entry.Asked Entry.Post (λ κ z e. z) (λ κ (table, (i, _)). get_or table.now i 0)
+pub record SwitchCalls : Type 2 where
+  pub entry : (T : RattleType) (laws : _) (copy : _) (clone : _) (dict : _) → T.lives ≡ []
+      → Settles (Entry.Asked T laws copy clone dict) (Entry.Post T laws copy clone dict) (λ κ z e. z)
+      (λ κ (table, (i, (none, _))). get_or table.now i none)
   pub cell : Settles Cell.Asked Cell.Post (λ κ z e. z) (λ κ (u, (v, _)). cell_of u v)
   pub input_of : Settles InputOf.Asked InputOf.Post (λ κ z e. z) (λ κ (cell, _). input_of cell)
   pub output_of : Settles OutputOf.Asked OutputOf.Post (λ κ z e. z) (λ κ (cell, _). output_of cell)
@@ -96,12 +106,16 @@ pub record SwitchCalls : Type 0 where
   pub input_limit : Settles InputLimit.Asked InputLimit.Post (λ κ z e. z) (λ κ (u, _). input_limit u)
   pub output_limit : Settles OutputLimit.Asked OutputLimit.Post (λ κ z e. z) (λ κ (v, _). output_limit v)
   pub zero : Settles Zero.Asked Zero.Post (λ κ z e. z) (λ κ a. zero_request)
-  pub demand : Settles Demand.Asked Demand.Post (λ κ z e. z) (λ κ (request, (cell, _)). demand_of request cell)
+  pub demand : Settles Demand.Asked Demand.Post (λ κ z e. z) (λ κ (request, (cell, _)). demand_of request.now cell)
+  pub input_numbered : Settles InputNumbered.Asked InputNumbered.Post (λ κ z e. z) (λ κ (k, _). input k)
+  pub input_flow : Settles InputFlow.Asked InputFlow.Post (λ κ z e. z) (λ κ (u, (k, _)). cell_of u (output k))
+  pub output_numbered : Settles OutputNumbered.Asked OutputNumbered.Post (λ κ z e. z) (λ κ (k, _). output k)
+  pub output_flow : Settles OutputFlow.Asked OutputFlow.Post (λ κ z e. z) (λ κ (v, (k, _)). cell_of (input k) v)
+  pub half_number : Settles HalfNumber.Asked HalfNumber.Post (λ κ z e. z) (λ κ (half, _). half_number half)
   pub empty : Settles Empty.Asked Empty.Post (λ κ z e. z) (λ κ a. empty_plan)
   pub refused : Settles Refused.Asked Refused.Post (λ κ z e. z) (λ κ (cause, (place, _)). refusal cause place)
   pub or_else : Settles OrElse.Asked OrElse.Post (λ κ z e. z) (λ κ (first, (next, _)). or_else first next)
   pub number : Settles Number.Asked Number.Post (λ κ z e. z) (λ κ (cause, _). number_of cause)
-  pub lesser : Settles Lesser.Asked Lesser.Post (λ κ z e. z) (λ κ (x, (y, _)). min x y)
 
 pub record RequestsCalls : Type 0 where
   pub check : Settles RequestCheck.Asked RequestCheck.Post (λ κ z e. z) (λ κ (request, _). request_verdict request)
@@ -168,7 +182,7 @@ pub record ExportCalls : Type 0 where
   pub list_text : Settles PlanList.Asked PlanList.Post (λ κ z (_, (text, _)). text.now)
       (λ κ (request, (text, _)). listed_in request.now text.now)
 
-pub record Calls : Type 0 where
+pub record Calls : Type 2 where
   pub blocks : BlocksCalls
   pub switch : SwitchCalls
   pub requests : RequestsCalls

@@ -1,5 +1,5 @@
 -- A part of a table, searched for its first number above a limit. Past its end a table counts as 0, which is above none.
-use Rattle.std.proofs.Common.{ℕ, Bool, ◌≡◌, refl, sym, ◌∙◌, ap, cond, ◌+◌, ◌-◌, ◌<◌, ◌≤◌, length, min, true, false, true≢false, ltb, List, inl, inr, ltb-true, ltb-false, subst, arith}
+use Rattle.std.proofs.Common.{ℕ, Bool, ◌≡◌, cond, ◌+◌, ◌-◌, ◌<◌, ◌≤◌, length, min, true, false, ltb, List, inl, inr, ltb-true, ltb-false, subst, arith}
 use Rattle.std.specs.Prelude.{get_or, position, Option}
 use Rattle.std.specs.Option.{option_map}
 use Rattle.std.specs.List.{position_or_len, slice_range}
@@ -11,7 +11,7 @@ use Rattle.std.proofs.lemmas.List.Quantifiers.{position-Some}
 use Rattle.std.proofs.lemmas.List.Sums.{fails_before_first}
 use Rattle.switch.specs.Tables.{FirstAbove, FoundAbove}
 
-none_passes : {X : Type 0} (p : X → Bool) (xs : List X) (d : X) → position p xs ≡ None → (k : ℕ) → k < length xs → p (get_or xs k d) ≡ false
+pub none_passes : {X : Type 0} (p : X → Bool) (xs : List X) (d : X) → position p xs ≡ None → (k : ℕ) → k < length xs → p (get_or xs k d) ≡ false
 none_passes p xs d none k lt = elim (cases_lt (position_or_len p xs) (length xs)) [
   | inl inside ↦ grind (arith, common_steps)
   | inr past ↦ fails_before_first p xs k d (omega arith)

@@ -28,8 +28,8 @@ impl End for Input {
 
     ghost flow = { λ u k. cell_of u (output k) };
 
-    fn numbered(k: u32) -> Input {
-        Input(k)
+    fn numbered(u: u32) -> Input {
+        Input(u)
     }
 
     fn flow(self, k: u32) -> u64 {
@@ -42,8 +42,8 @@ impl End for Output {
 
     ghost flow = { λ v k. cell_of (input k) v };
 
-    fn numbered(k: u32) -> Output {
-        Output(k)
+    fn numbered(v: u32) -> Output {
+        Output(v)
     }
 
     fn flow(self, k: u32) -> u64 {
@@ -86,7 +86,8 @@ impl Input {
     pub fn limit(self) -> u64
         ensures { result ≡ input_limit self }
     {
-        u64::from(self.0)
+        let Input(u) = self;
+        u64::from(u)
     }
 }
 
@@ -102,6 +103,7 @@ impl Output {
     pub fn limit(self) -> u64
         ensures { result ≡ output_limit self }
     {
-        8 + u64::from(self.0)
+        let Output(v) = self;
+        8 + u64::from(v)
     }
 }

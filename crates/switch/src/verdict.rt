@@ -90,8 +90,8 @@ impl Try for Verdict {
 impl FromResidual<Refusal> for Verdict {
     ghost from_residual_gives = { λ refusal verdict. verdict ≡ refused_by refusal };
 
-    fn from_residual(refusal: Refusal) -> Verdict {
-        Verdict::Refused(refusal)
+    fn from_residual(reason: Refusal) -> Verdict {
+        Verdict::Refused(reason)
     }
 }
 

@@ -12,6 +12,10 @@ unfoldable pub most_to : ℕ → (ℕ → ℕ) → ℕ
 most_to zero f = 0
 most_to (suc n) f = max (most_to n f) (f n)
 
+-- A port of which no flow is known.
+abbrev pub no_port : Port
+no_port = record { sum = 0; most = 0 }
+
 -- A port with n flows, of numerators f 0, f 1, ..: what they add up to, and the largest of them.
 abbrev pub port_of : ℕ → (ℕ → ℕ) → Port
 port_of n f = record { sum = capped (sum_to (ports n) f); most = most_to (ports n) f }

@@ -1,11 +1,12 @@
--- A reason that is out of range is the row's first offender, and after the last cell there is none.
-use Rattle.std.proofs.Common.{sym, ◌∙◌, lt-ltb, arith}
-use Rattle.switch.proofs.Search.{row_refuses, row_accepts}
+-- The search finds the row's first offender.
+use Rattle.std.proofs.Common.{ltb, refl, ◌∙◌, arith}
+use Rattle.checker.proofs.Searches.{found_row, position_finds_in}
+use Rattle.worked.specs.Worked.{range_worked}
 use Rattle.checker.proofs.rates.range_row.Goals as goal
 
-pub returns-then-beyond : goal.returns-then-beyond
-returns-then-beyond c =
-    c.refused.ensures ∙ sym (row_refuses c.loop-c.invariant (omega arith) (lt-ltb _ _ c.if-beyond.true))
-
 pub returns : goal.returns
-returns c = sym (row_accepts c.loop-c.invariant (omega arith))
+returns c =
+    let reasons = c.args.reasons.now in
+    c.refused_if.ensures
+    ∙ found_row (range_worked reasons) c.beyond.result (λ k. refl)
+    (position_finds_in 64 (ltb 2) reasons 0 c.beyond.result (omega arith) c.beyond.ensures)

@@ -1,11 +1,12 @@
--- A number that is more than it may be is the row's first offender, and after the last there is none.
-use Rattle.std.proofs.Common.{sym, ◌∙◌, lt-ltb, arith}
-use Rattle.switch.proofs.Search.{row_refuses, row_accepts}
+-- The search finds the row's first offender.
+use Rattle.std.proofs.Common.{refl, ◌∙◌, arith}
+use Rattle.worked.specs.Worked.{more_row}
+use Rattle.checker.proofs.Searches.{found_row, pairs_find}
 use Rattle.checker.proofs.side.more_row.Goals as goal
 
-pub returns-then-most-i : goal.returns-then-most-i
-returns-then-most-i c =
-    c.refused.ensures ∙ sym (row_refuses c.loop-i.invariant (omega arith) (lt-ltb _ _ c.if-most-i.true))
-
 pub returns : goal.returns
-returns c = sym (row_accepts c.loop-i.invariant (omega arith))
+returns g c =
+    let a = c.args in
+    c.refused_if.ensures
+    ∙ found_row (more_row a.cause g.row.N a.most.now a.table.now) _ (λ k. refl)
+    (pairs_find g.row.N a.table.now a.most.now c.more.result (omega arith) (omega arith) c.more.ensures)

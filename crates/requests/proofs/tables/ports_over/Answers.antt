@@ -1,5 +1,5 @@
 -- `ports_over` meets its contract: one stretch holds all ports of the side.
-use Rattle.std.proofs.Common.{ℕ, ◌≡◌, min, Bool, cond, List, sym, ◌∙◌, ap, ◌+◌, ◌<◌, subst, arith}
+use Rattle.std.proofs.Common.{ℕ, ◌≡◌, min, Bool, cond, List, sym, ◌∙◌, ap, ◌+◌, subst, arith}
 use Rattle.std.specs.Prelude.{Option}
 use Rattle.switch.specs.Tables.{FoundAbove, ports_over}
 use Rattle.switch.specs.declared.verdict.Cause.{Cause}

@@ -1,7 +1,7 @@
 -- After the last number the table is full.
 use Rattle.std.proofs.Common.{arith}
 use Rattle.laws.proofs.Filled.{filled_all}
-use Rattle.checker.proofs.side.scale.Goals as goal
+use Rattle.checker.proofs.side.scaled.Goals as goal
 
 pub returns : goal.returns
-returns c = filled_all c.loop-i.invariant (omega arith)
+returns g c = filled_all c.loop-i.invariant (omega arith)

@@ -1,0 +1,2 @@
+-- What the checker's searches answer.
+pub mod Found
