@@ -18,7 +18,7 @@ use Rattle.switch.proofs.Within.{within_of_accepted}
 use Rattle.judging.specs.PlanWithin.{PlanWithin}
 use Rattle.judging.specs.PlanRows.{half_not_zero, base_row, rate_rows}
 use Rattle.worked.specs.Worked.{rates_worked}
-use Rattle.files.proofs.Judged_standin.{rates_heard, plan_within_of_accepted}
+use Rattle.checker.proofs.Judged.{rates_heard, plan_within_of_accepted}
 use Rattle.formats.specs.FileRows.{length_row, check_row, kind_row, spare_row}
 use Rattle.formats.specs.RequestFile.{request_in}
 use Rattle.formats.specs.PlanFile.{base_in, plan_in, base_differs_row, plan_file_rows, check_verdict}

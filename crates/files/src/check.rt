@@ -10,7 +10,7 @@ ghost use Rattle.formats.specs.PlanFile.{base_in, base_differs_row, check_verdic
 use crate::format::{base_rows, zeros_row};
 use crate::read::{plan_in, request_in};
 use crate::rows::frame_rows;
-use crate::standin::rates;
+use checker::rates::rates;
 use requests::check::check as check_request;
 use switch::plan::Plan;
 use switch::request::Request;

@@ -8,7 +8,7 @@ ghost use Rattle.formats.specs.PlanFile.{base_in, base_differs_row};
 
 use crate::read::base_in;
 use crate::rows::spare_row;
-use crate::standin::{base_row, unused};
+use checker::format::{base_row, unused};
 use switch::plan::{Half, Plan};
 use switch::request::Request;
 use switch::verdict::{Cause, Verdict, refused};

@@ -9,4 +9,3 @@ pub mod plan;
 mod read;
 pub mod request;
 mod rows;
-pub mod standin;

@@ -5,7 +5,7 @@ ghost use Rattle.formats.specs.Writing.{write_verdict};
 
 use crate::layout::{PlanHalf, write_block};
 use crate::rows::room_row;
-use crate::standin::plan;
+use planner::plan::plan;
 use switch::plan::{Half, Plan, Planned};
 use switch::request::Request;
 use switch::verdict::Verdict;
