@@ -2,4 +2,5 @@
 // this library the marks of an export only say what they are for.
 #![tactic(auto)]
 
+pub mod calls;
 mod code;
