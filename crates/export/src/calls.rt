@@ -29,7 +29,7 @@ pub extern "C" fn rate_plan_write(request: &[u8], plan: &mut [u8]) -> u64
     let read = read_request(request);
     match read.verdict {
         Verdict::Accepted => code(write_plan(read.request, plan)),
-        refused => code(refused),
+        Verdict::Refused(_) => code(read.verdict),
     }
 }
 
