@@ -14,6 +14,7 @@ mod values;
 use std::fmt;
 
 // Standard output by the kit's `io` and not by std's: of the C library it asks `write` alone.
+#[derive(Clone, Copy)]
 struct Out;
 
 impl fmt::Write for Out {
