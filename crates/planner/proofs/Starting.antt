@@ -20,29 +20,6 @@ use Rattle.planner.specs.Engine.{rising_at, start_stage, first_stage, first_weig
 use Rattle.planner.proofs.Stages.{start_stages, limit_small}
 use Rattle.planner.proofs.Walks.{lowered_none}
 
--- One flow: it waits, it rises, or it asks for nothing.
-module _ {cards : Bool} {c : ℕ} (demand minimum weight : ℕ) {stages left parts : List ℕ} where
-  pub begun_waiting : {left' : List ℕ} → 0 < minimum → Lowered cards c minimum left left' → length parts ≡ 20
-      → Halted cards c (first_stage demand minimum) minimum (first_weight demand minimum weight) stages (set stages c 22) left left' parts parts
-  begun_waiting low taken long =
-      rw (lt-ltb 0 minimum low) (record { marked = refl; taken = taken; freed = lowered_none cards c 0 parts long refl })
-
-  pub begun_rising : {parts' : List ℕ} → minimum ≤ 0 → 0 < demand → length left ≡ 20 → Lowered cards c weight parts' parts
-      → Halted cards c (first_stage demand minimum) minimum (first_weight demand minimum weight) stages (set stages c 20) left left parts' parts
-  begun_rising none asks long given =
-      rw (le-ltb 0 minimum none, lt-ltb 0 demand asks)
-      (record { marked = refl; taken = lowered_none cards c minimum left long (omega arith); freed = given })
-
-  pub begun_silent : minimum ≤ 0 → demand ≤ 0 → length left ≡ 20 → length parts ≡ 20
-      → Halted cards c (first_stage demand minimum) minimum (first_weight demand minimum weight) stages (set stages c 21) left left parts parts
-  begun_silent none silent long_l long_p =
-      rw (le-ltb 0 minimum none, le-ltb 0 demand silent)
-      (record {
-        marked = refl;
-        taken = lowered_none cards c minimum left long_l (omega arith);
-        freed = lowered_none cards c 0 parts long_p refl;
-      })
-
 -- What rises through the limits, from nothing.
 pub zeros_long : {parts : List ℕ} → parts ≡ replicate 20 0 → length parts ≡ 20
 zeros_long e = ap length e ∙ length-replicate {A = ℕ} 20 0

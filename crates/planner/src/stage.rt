@@ -1,13 +1,70 @@
-// The stages of a flow. A number below 20 is that of the limit at which it has stopped.
+// The stages of a flow.
+ghost use Rattle.std.specs.Prelude.{◌≡◌, ◌<◌, eqb};
 
-// It rises.
-pub const RISING: u64 = 20;
+use std::marker::Model;
 
-// It has stopped at its demand.
-pub const MET: u64 = 21;
+// It has stopped at a limit that filled, it rises, it has stopped at its demand, it waits at its minimum, or it has stopped there.
+#[derive(Clone, Copy)]
+pub enum Kind {
+    Stopped(usize),
+    Rising,
+    Met,
+    Waiting,
+    Held,
+}
 
-// It waits at its minimum.
-pub const WAITING: u64 = 22;
+// Contracts see a stage as a number: below 20 that of the limit, and from 20 on the other four in their order.
+#[derive(Clone, Copy)]
+pub struct Stage {
+    pub kind: Kind,
+}
 
-// It has stopped at its minimum.
-pub const HELD: u64 = 23;
+impl Model for Stage {
+    ghost use Rattle.std.specs.Prelude.{ℕ};
+    ghost use Rattle.planner.specs.Stages.{number_of, kind_of, kind_of_number, Numbered};
+
+    ghost Value = { ℕ };
+
+    ghost view = { λ s. number_of s.kind };
+
+    ghost invariant = { λ s. Numbered s.kind };
+
+    ghost inverse = { λ n. record { kind = kind_of n } };
+
+    ghost inverse_ok = { λ s h i. record { kind = kind_of_number s.kind h i } };
+}
+
+impl Stage {
+    pub const RISING: Stage = Stage {
+        kind: Kind::Rising,
+    };
+
+    pub const MET: Stage = Stage { kind: Kind::Met };
+
+    pub const WAITING: Stage = Stage {
+        kind: Kind::Waiting,
+    };
+
+    pub const HELD: Stage = Stage { kind: Kind::Held };
+
+    pub fn stopped(limit: usize) -> Stage
+        requires { limit < 20 }
+        ensures { result ≡ limit }
+    {
+        Stage {
+            kind: Kind::Stopped(limit),
+        }
+    }
+
+    pub fn rises(self) -> bool
+        ensures { result ≡ eqb self 20 }
+    {
+        matches!(self.kind, Kind::Rising)
+    }
+
+    pub fn waits(self) -> bool
+        ensures { result ≡ eqb self 22 }
+    {
+        matches!(self.kind, Kind::Waiting)
+    }
+}
