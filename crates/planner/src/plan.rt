@@ -38,12 +38,14 @@ fn worked_out(request: &Request) -> Plan
     requires { Within request.now }
     ensures { result ≡ plan_of request.now }
 {
+    let minima = [0; 64];
+    let weights = [1; 64];
     let flows = Flows {
         cards: false,
         heaviest: 1,
         demands: &request.demands,
-        minima: &[0; 64],
-        weights: &[1; 64],
+        minima: &minima,
+        weights: &weights,
     };
     let (filled, mut numerators) = fill(&flows, capacities(request));
     let base = reduce(filled, &mut numerators);
