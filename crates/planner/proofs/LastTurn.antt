@@ -7,15 +7,14 @@ use native.Mathlib.Omega.{arith}
 use Rattle.laws.specs.Lists.{list}
 use Rattle.laws.proofs.Lists.{list_same}
 use Rattle.fairness.specs.Fairness.{Fair}
-use Rattle.fairness.specs.Filling.{Next, next, over}
+use Rattle.fairness.specs.Filling.{next, over}
 use Rattle.fairness.proofs.Filling.{ended_of_none}
 use Rattle.planner.specs.Sizes.{most_base, most_high}
 use Rattle.planner.specs.Limits.{limits_of, problem}
 use Rattle.planner.specs.Tables.{Bounded}
-use Rattle.planner.specs.Engine.{sharing, standing, state_of, state_at, rates_at, Engaged, LimitsSmall, Modest, next_of}
+use Rattle.planner.specs.Engine.{sharing, standing, state_of, state_at, rates_at, Engaged, LimitsSmall, Modest}
 use Rattle.planner.specs.declared.filling.Filling.{Filling}
 use Rattle.planner.specs.declared.flows.Flows.{Flows}
-use Rattle.planner.specs.declared.level.Level.{Level}
 use Rattle.planner.proofs.Stages.{limit_small}
 use Rattle.planner.proofs.Bounds.{base_small, left_small, parts_small}
 
@@ -53,9 +52,9 @@ module _ {f : Flows} {capacities : List ℕ} {at : Filling} (modest : Modest (sh
   pub levels_listed : Bounded (limits_of f.cards) most_high at.levels
   levels_listed = record { each = λ i hi. levels_now.each i (limit_small f.cards i hi) }
 
-  pub fair_at_last : (e : Level) → next_of e ≡ next (sharing f capacities) (state_at (sharing f capacities) at) → e.parts ≡ 0
+  pub fair_at_last : (next (sharing f capacities) (state_at (sharing f capacities) at)).parts ≡ 0
       → Fair (sharing f capacities) (over at.base (rates_at f at))
   unfolding state_of
-  fair_at_last e is none =
+  fair_at_last none =
       rw (list_same 64 _ _ (λ c hc. standing_any f.cards capacities d m w at.base at.tables.stages at.levels c))
-      (ended_of_none (sharing f capacities) modest.sound _ now.between (sym (ap (λ (x : Next). x.parts) is) ∙ none)).fair
+      (ended_of_none (sharing f capacities) modest.sound _ now.between none).fair

@@ -299,21 +299,30 @@ module _ {f : Flows} {capacities : List ℕ} {at : Filling} {e : Level} (turn : 
     abbrev Further : State → Type 0
     Further t = Between P t × (work P t < work P s)
 
-    further_by : (t : State) → happen P s (next_of e) (event_of e.event) ≡ t → Further t
-    further_by t q =
-        subst Further (round_unmet P s (next_of e) none ∙ q) further
+    -- there are parts, so that the event takes place
+    event_is : (next_of e).event ≡ event_of e.event
+    event_is = rw (ne_eqb e.parts 0 (λ z. omega (arith, pos)))
+
+    further_by : (x : Event) → e.event ≡ x → (t : State) → happen P s (next_of e) (event_of x) ≡ t → Further t
+    further_by x at_x t q =
+        subst Further
+        (round_unmet P s (next_of e) none ∙ ap (happen P s (next_of e)) (event_is ∙ ap event_of at_x) ∙ q) further
+
+    -- what the filling says of the event that takes place
+    next_event_is : (x : Event) → e.event ≡ x → (next P s).event ≡ event_of x
+    next_event_is x at_x = sym (ap (λ (n : Next). n.event) is) ∙ event_is ∙ ap event_of at_x
 
     -- A limit fills.
     module _ (limit : ℕ) (at_limit : e.event ≡ event.Fills limit) where
       found : (limit < P.limits) × (next P s ≡ limit_next P s limit) × (0 < across P limit (cells s.rising))
-      found = fills_next P modest.sound s now.between limit (sym (ap (λ (x : Next). x.event) is) ∙ ap event_of at_limit)
+      found = fills_next P modest.sound s now.between limit (next_event_is (event.Fills limit) at_limit)
 
       small : limit < 20
       small = limit_small cards limit found.0
 
       shut_further : Further (shut P s (next_of e) limit)
       unfolding happen
-      shut_further = further_by _ (ap (λ x. happen P s (next_of e) (event_of x)) at_limit)
+      shut_further = further_by (event.Fills limit) at_limit _ refl
 
       rises : 0 < across P limit (rising_at P stages)
       rises = rw (total_same 64 (through limit) _ _ (λ c hc. rising_cell P b stages levels c hc)) at found.2
@@ -409,14 +418,14 @@ module _ {f : Flows} {capacities : List ℕ} {at : Filling} {e : Level} (turn : 
     -- A waiting flow's minimum is reached.
     module _ (flow : ℕ) (at_flow : e.event ≡ event.Reaches flow) where
       reached : (flow < 64) × (next P s ≡ flow_next s flow) × (0 < cells s.waiting flow)
-      reached = reaches_next P modest.sound s now.between flow (sym (ap (λ (x : Next). x.event) is) ∙ ap event_of at_flow)
+      reached = reaches_next P modest.sound s now.between flow (next_event_is (event.Reaches flow) at_flow)
 
       waits : cells stages flow ≡ 22
       waits = waits_of (cells stages flow) (cells weights flow) (rw (waiting_cell P b stages levels flow reached.0) at reached.2)
 
       free_further : Further (free P s flow)
       unfolding happen
-      free_further = further_by _ (ap (λ x. happen P s (next_of e) (event_of x)) at_flow)
+      free_further = further_by (event.Reaches flow) at_flow _ refl
 
       holds_left : Holds cards flow (cells minima flow * b) left
       holds_left =
@@ -484,8 +493,5 @@ module _ {f : Flows} {capacities : List ℕ} {at : Filling} {e : Level} (turn : 
     happened_turn new done = go e.event refl
       where
         go : (x : Event) → e.event ≡ x → Onward f capacities at new
-        go event.Nothing q =
-            absurd (never_nothing P modest.sound s now.between (subst (λ (x : Next). 0 < x.parts) is pos)
-            (sym (ap (λ (x : Next). x.event) is) ∙ ap event_of q))
         go (event.Fills limit) q = shut_turn limit q new (done.fills limit q)
         go (event.Reaches flow) q = free_turn flow q new (done.reaches flow q)

@@ -1,6 +1,6 @@
 -- The engine's tables, and the state of a filling that they stand for. What a stopped flow has is told by its stage, so that
 -- only tables of the limits grow with the base.
-use Rattle.std.specs.Prelude.{ℕ, ◌+◌, ◌-◌, ◌*◌, ◌≤◌, ◌<◌, ◌≡◌, Bool, true, false, cond, ◌&&◌, List, [], ◌≢◌, eqb, leb, ltb, length, set}
+use Rattle.std.specs.Prelude.{ℕ, ◌+◌, ◌-◌, ◌*◌, ◌≤◌, ◌<◌, ◌≡◌, Bool, true, false, cond, ◌&&◌, List, [], Option, None, Some, ◌≢◌, eqb, leb, ltb, length, set}
 use Rattle.laws.specs.Lists.{cells, list}
 use Rattle.fairness.specs.Total.{on}
 use Rattle.fairness.specs.Product.{sum, product}
@@ -158,14 +158,21 @@ pub record Done (P : Problem) (stages : List ℕ) : Type 0 where
   pub idle : (c : ℕ) → c < 64 → cells stages c < 20 → (g : ℕ) → g < 64 → P.through (cells stages c) g ≡ true
       → Resting (cells stages g)
 
--- The event of a level, and the level with it.
+-- The event of a level; the level with it; and the same, but that over 0 parts nothing happens.
 abbrev pub event_of : LevelEvent → Event
-event_of event.Nothing = nothing
 event_of (event.Fills l) = fills l
 event_of (event.Reaches c) = reaches c
 
+abbrev pub level_of : Level → Next
+level_of e = record { high = e.high; parts = e.parts; event = event_of e.event }
+
 abbrev pub next_of : Level → Next
-next_of e = record { high = e.high; parts = e.parts; event = event_of e.event }
+next_of e = record { high = e.high; parts = e.parts; event = cond (eqb e.parts 0) nothing (event_of e.event) }
+
+-- What a search answers: nothing if nothing happens next, and else the level at which something does.
+abbrev pub Found : Next → Option Level → Type 0
+Found n None = n.parts ≡ 0
+Found n (Some e) = (next_of e ≡ n) × (0 < e.parts)
 
 -- When a limit fills, and when a waiting flow's minimum is reached.
 abbrev pub limit_event : List ℕ → List ℕ → ℕ → Next

@@ -17,12 +17,7 @@ impl Filling {
         requires { Ready flows.now self.old }
         ensures { Finished flows.now self.old self.new }
     {
-        'turns: loop {
-            let level = self.next_level(flows);
-            let ended = level.parts == 0;
-            if ended {
-                return;
-            }
+        'turns: while let Some(level) = self.next_level(flows) {
             let met = self.stop_some(flows, level);
             if met {
                 continue 'turns;
@@ -32,10 +27,11 @@ impl Filling {
     }
 }
 
-// The base of fair rates, and their numerators.
-pub fn fill(flows: &Flows, capacities: [u64; 20]) -> (u64, [u64; 64])
+// Fills the numerators with fair rates and answers their base. The numerators are handed in: by value they would be copied twice,
+// a hundredth of what a plan costs.
+pub fn fill(flows: &Flows, capacities: [u64; 20], numerators: &mut [u64; 64]) -> u64
     requires { Modest (sharing flows.now capacities) flows.now.heaviest }
-    ensures { (result.0 ≤ most_base) × Fair (sharing flows.now capacities) (over result.0 result.1) }
+    ensures { (result ≤ most_base) × Fair (sharing flows.now capacities) (over result numerators.new) }
 {
     let mut filling = Filling {
         held: false,
@@ -50,5 +46,6 @@ pub fn fill(flows: &Flows, capacities: [u64; 20]) -> (u64, [u64; 64])
     };
     filling.held = filling.tables.start(flows);
     filling.turns(flows);
-    (filling.base, filling.rates(flows))
+    filling.rates(flows, numerators);
+    filling.base
 }

@@ -31,7 +31,6 @@ impl Filling {
         ensures { Happened flows.now level self.old self.new }
     {
         match level.event {
-            Event::Nothing => {}
             Event::Fills(limit) => self.shut(flows, limit, level),
             Event::Reaches(cell) => self.free(flows, cell),
         }

@@ -2,10 +2,9 @@
 ghost use Rattle.std.specs.Prelude.{◌≤◌};
 ghost use Rattle.planner.specs.Sizes.{most_high, most_parts};
 
-// Nothing, a limit fills, or the minimum of a cell's waiting flow is reached.
+// A limit fills, or the minimum of a cell's waiting flow is reached.
 #[derive(Clone, Copy)]
 pub enum Event {
-    Nothing,
     Fills(usize),
     Reaches(usize),
 }
@@ -23,22 +22,22 @@ pub struct Level {
 impl Level {
     ghost use Rattle.std.specs.Prelude.{◌≡◌};
     ghost use Rattle.fairness.specs.Filling.{never, lower};
-    ghost use Rattle.planner.specs.Engine.{next_of};
+    ghost use Rattle.planner.specs.Engine.{level_of, next_of};
 
-    // 1 over 0 is above all others.
+    // 1 over 0 is above all others: a search begins with it, and its event never happens.
     pub fn never() -> Level
         ensures { next_of result ≡ never }
     {
         Level {
             high: 1,
             parts: 0,
-            event: Event::Nothing,
+            event: Event::Fills(0),
         }
     }
 
     // Two levels are compared by multiplying across. If they are level, the first counts.
     pub fn lower(self, other: Level) -> Level
-        ensures { next_of result ≡ lower (next_of self) (next_of other) }
+        ensures { next_of result ≡ lower (next_of self) (level_of other) }
     {
         if other.high * self.parts < self.high * other.parts {
             other

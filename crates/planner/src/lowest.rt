@@ -5,7 +5,7 @@ ghost use Rattle.fairness.specs.Total.{on};
 ghost use Rattle.fairness.specs.Filling.{never, lowest};
 ghost use Rattle.planner.specs.Sizes.{most_base};
 ghost use Rattle.planner.specs.Limits.{limits_of};
-ghost use Rattle.planner.specs.Engine.{next_of, limit_event, flow_event, next_event, LimitsSmall};
+ghost use Rattle.planner.specs.Engine.{next_of, limit_event, flow_event, next_event, Found, LimitsSmall};
 
 use crate::filling::Filling;
 use crate::flows::Flows;
@@ -56,16 +56,18 @@ impl Tables {
 }
 
 impl Filling {
-    // The lowest level of all. Flows are searched only if some flow had a minimum at the start.
-    pub fn next_level(&self, flows: &Flows) -> Level
+    // The lowest level of all, if anything can happen. Flows are searched only if some flow had a minimum at the start.
+    pub fn next_level(&self, flows: &Flows) -> Option<Level>
         requires { (self.now.base ≤ most_base) × LimitsSmall flows.now.cards self.now.tables }
-        ensures { next_of result ≡ next_event flows.now self.now }
+        ensures { Found (next_event flows.now self.now) result }
     {
-        let level = self.tables.lowest_limit(flows);
-        if self.held {
-            self.tables.lowest_flow(flows, self.base, level)
+        let first = self.tables.lowest_limit(flows);
+        let level = if self.held {
+            self.tables.lowest_flow(flows, self.base, first)
         } else {
-            level
-        }
+            first
+        };
+        let nothing = level.parts == 0;
+        if nothing { None } else { Some(level) }
     }
 }

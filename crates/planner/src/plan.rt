@@ -47,7 +47,8 @@ fn worked_out(request: &Request) -> Plan
         minima: &minima,
         weights: &weights,
     };
-    let (filled, mut numerators) = fill(&flows, capacities(request));
+    let mut numerators = [0; 64];
+    let filled = fill(&flows, capacities(request), &mut numerators);
     let base = reduce(filled, &mut numerators);
     let reasons = reasons(
         request.m,

@@ -3,14 +3,14 @@ ghost use Rattle.std.specs.Prelude.{◌≡◌, ◌<◌, eqb};
 
 use std::marker::Model;
 
-// It has stopped at a limit that filled, it rises, it has stopped at its demand, it waits at its minimum, or it has stopped there.
+// It rises, it waits at its minimum, it has stopped there, it has stopped at its demand, or at a limit that filled.
 #[derive(Clone, Copy)]
 pub enum Kind {
-    Stopped(usize),
     Rising,
-    Met,
     Waiting,
     Held,
+    Met,
+    Stopped(u8),
 }
 
 // Contracts see a stage as a number: below 20 that of the limit, and from 20 on the other four in their order.
@@ -52,7 +52,7 @@ impl Stage {
         ensures { result ≡ limit }
     {
         Stage {
-            kind: Kind::Stopped(limit),
+            kind: Kind::Stopped(limit as u8),
         }
     }
 

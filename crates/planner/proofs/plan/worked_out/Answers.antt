@@ -30,12 +30,12 @@ fill-filled-requires c =
 pub returns : goal.returns
 returns c =
     let r = c.args.request.now in
-    let long : length c.fill-filled.result.1 ≡ 64 = search rules in
+    let long : length c.fill-filled.new.numerators ≡ 64 = search rules in
     let fair =
     subst
-    (λ (t : List ℕ). Fair (problem false t r.demands (replicate 64 0) (replicate 64 1)) (over c.fill-filled.result.0 c.fill-filled.result.1))
+    (λ (t : List ℕ). Fair (problem false t r.demands (replicate 64 0) (replicate 64 1)) (over c.fill-filled.result c.fill-filled.new.numerators))
     c.capacities.ensures c.fill-filled.ensures.1 in
     (λ i. record { base = c.reduce-base.ensures.value i; numerators = c.reduce-base.ensures.numerators_after i; reasons = c.reasons-reasons.result })
-    ∙ plan_of_fair r c.requires c.fill-filled.result.0 c.fill-filled.result.1 c.fill-filled.ensures.0 long fair c.reasons-reasons.result
+    ∙ plan_of_fair r c.requires c.fill-filled.result c.fill-filled.new.numerators c.fill-filled.ensures.0 long fair c.reasons-reasons.result
     (c.reasons-reasons.ensures
     ∙ ap₂ (reasons_at r.m r.n r.inputs r.demands) c.reduce-base.ensures.value c.reduce-base.ensures.numerators_after)

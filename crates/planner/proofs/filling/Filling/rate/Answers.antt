@@ -7,7 +7,9 @@ use Rattle.planner.proofs.filling.Filling.rate.Goals as goal
 
 pub overflow_mul-result : goal.overflow_mul-result
 overflow_mul-result c =
-    let low : c.in-Stopped.limit < 20 = subst Numbered c.in-Stopped.is c.stage.invariant in
+    let limit = c.from-in-Stopped.result in
+    let stopped : c.in-Stopped.limit < 20 = subst Numbered c.in-Stopped.is c.stage.invariant in
+    let low : limit < 20 = omega (arith, c.from-in-Stopped.ensures) in
     let light : c.from.result ≤ most_parts =
     omega (arith, c.from.ensures, c.args.flows.now.weights_small.each c.args.cell c.requires.0) in
-    omega (arith, mul-le-mul light (c.requires.2.each c.in-Stopped.limit low))
+    omega (arith, mul-le-mul light (c.requires.2.each limit low))

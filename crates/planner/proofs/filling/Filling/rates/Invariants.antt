@@ -9,4 +9,4 @@ abbrev pub invariant-loop-cell : goal.invariant-loop-cell
 invariant-loop-cell l =
     Marked l.cell
     (standing (problem false [] l.flows.demands.now l.flows.minima.now l.flows.weights.now) l.self.base l.self.tables.stages l.self.levels)
-    l.initial.numerator-items l.numerator-items
+    l.initial.numerators l.numerators
