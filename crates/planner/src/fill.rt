@@ -7,7 +7,7 @@ ghost use Rattle.planner.specs.Engine.{sharing, Modest, Ready, Finished};
 
 use crate::filling::Filling;
 use crate::flows::Flows;
-use crate::stage::Stage;
+use crate::stage::{Kind, Stage};
 use crate::tables::Tables;
 
 impl Filling {
@@ -39,7 +39,7 @@ pub fn fill(flows: &Flows, capacities: [u64; 20], numerators: &mut [u64; 64]) ->
         least: 0,
         levels: [0; 20],
         tables: Tables {
-            stages: [Stage::HELD; 64],
+            stages: [Stage::of(Kind::Held); 64],
             left: capacities,
             parts: [0; 20],
         },

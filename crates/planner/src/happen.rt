@@ -9,7 +9,7 @@ use crate::filling::Filling;
 use crate::flows::Flows;
 use crate::level::{Event, Level};
 use crate::limits::give;
-use crate::stage::Stage;
+use crate::stage::{Kind, Stage};
 
 impl Filling {
     // The flow of a cell, which waited at its minimum, begins to rise. It may ask for less than any that rose before.
@@ -19,7 +19,7 @@ impl Filling {
     {
         let x = u64::from(flows.minima[cell]) * self.base;
         let weight = u64::from(flows.weights[cell]);
-        self.tables.stages[cell] = Stage::RISING;
+        self.tables.stages[cell] = Stage::of(Kind::Rising);
         give(flows.cards, cell, x, &mut self.tables.left);
         give(flows.cards, cell, weight, &mut self.tables.parts);
         self.least = 0;

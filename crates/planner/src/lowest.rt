@@ -10,6 +10,7 @@ ghost use Rattle.planner.specs.Engine.{next_of, limit_event, flow_event, next_ev
 use crate::filling::Filling;
 use crate::flows::Flows;
 use crate::level::{Event, Level};
+use crate::stage::Kind;
 use crate::tables::Tables;
 
 impl Tables {
@@ -34,7 +35,10 @@ impl Tables {
         requires { cell < 64 }
         ensures { result ≡ on (eqb (cells self.now.stages cell) 22) (cells flows.now.weights.now cell) }
     {
-        if self.stages[cell].waits() { u64::from(flows.weights[cell]) } else { 0 }
+        match self.stages[cell].kind() {
+            Kind::Waiting => u64::from(flows.weights[cell]),
+            _ => 0,
+        }
     }
 
     // Waiting flows come after the limits.

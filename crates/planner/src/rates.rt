@@ -10,21 +10,16 @@ use crate::flows::Flows;
 use crate::stage::Kind;
 
 impl Filling {
-    // What a flow has is told by its stage: the level of the limit that stopped it, its demand, or its minimum. The stages are asked
-    // for one after the other: a match on the kind becomes a table of jumps, which costs three hundredths of a plan.
+    // What a flow has is told by its stage: the level of the limit that stopped it, its demand, or its minimum.
     fn rate(&self, flows: &Flows, cell: usize) -> u64
         requires { (cell < 64) × (self.now.base ≤ most_base) × Bounded 20 most_high self.now.levels }
         ensures { result ≡ rate_at self.now.base (cells flows.now.demands.now cell) (cells flows.now.minima.now cell) (cells flows.now.weights.now cell) (cells self.now.tables.stages cell) self.now.levels }
     {
-        let stage = self.tables.stages[cell];
-        if let Kind::Stopped(limit) = stage.kind {
-            u64::from(flows.weights[cell]) * self.levels[usize::from(limit)]
-        } else if let Kind::Met = stage.kind {
-            u64::from(flows.demands[cell]) * self.base
-        } else if let Kind::Rising = stage.kind {
-            0
-        } else {
-            u64::from(flows.minima[cell]) * self.base
+        match self.tables.stages[cell].kind() {
+            Kind::Stopped(limit) => u64::from(flows.weights[cell]) * self.levels[limit],
+            Kind::Met => u64::from(flows.demands[cell]) * self.base,
+            Kind::Rising => 0,
+            Kind::Waiting | Kind::Held => u64::from(flows.minima[cell]) * self.base,
         }
     }
 

@@ -9,7 +9,7 @@ ghost use Rattle.planner.specs.Engine.{HaltRoom, HaltTo, ShutReady, Shut, halt_r
 use crate::filling::Filling;
 use crate::flows::Flows;
 use crate::level::Level;
-use crate::stage::Stage;
+use crate::stage::{Kind, Stage};
 use crate::tables::Tables;
 
 // A walk goes over the cells of a limit from the first of them to the end in equal steps.
@@ -62,11 +62,10 @@ impl Tables {
     {
         if (limit < 18) | (18 + cell % 8 / 4 == limit) {
             let share = u64::from(flows.weights[cell]);
-            let stage = self.stages[cell];
-            if stage.rises() {
-                self.stop(flows.cards, cell, Stage::stopped(limit), share * high, share);
-            } else if stage.waits() {
-                self.stages[cell] = Stage::HELD;
+            match self.stages[cell].kind() {
+                Kind::Rising => self.stop(flows.cards, cell, Kind::Stopped(limit), share * high, share),
+                Kind::Waiting => self.stages[cell] = Stage::of(Kind::Held),
+                _ => {}
             }
         }
     }

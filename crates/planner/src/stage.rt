@@ -1,5 +1,5 @@
 // The stages of a flow.
-ghost use Rattle.std.specs.Prelude.{◌≡◌, ◌<◌, eqb};
+ghost use Rattle.std.specs.Prelude.{◌≡◌};
 
 use std::marker::Model;
 
@@ -10,61 +10,54 @@ pub enum Kind {
     Waiting,
     Held,
     Met,
-    Stopped(u8),
+    Stopped(usize),
 }
 
-// Contracts see a stage as a number: below 20 that of the limit, and from 20 on the other four in their order.
+// A stage is kept as the number of its kind: as an enum, which is two numbers, it would make a plan a twentieth dearer.
 #[derive(Clone, Copy)]
 pub struct Stage {
-    pub kind: Kind,
+    number: u8,
 }
 
 impl Model for Stage {
-    ghost use Rattle.std.specs.Prelude.{ℕ};
-    ghost use Rattle.planner.specs.Stages.{number_of, kind_of, kind_of_number, Numbered};
+    ghost use Rattle.std.specs.Prelude.{ℕ, ◌<◌};
 
     ghost Value = { ℕ };
 
-    ghost view = { λ s. number_of s.kind };
+    ghost view = { λ s. s.number };
 
-    ghost invariant = { λ s. Numbered s.kind };
+    ghost invariant = { λ s. s.number < 24 };
 
-    ghost inverse = { λ n. record { kind = kind_of n } };
-
-    ghost inverse_ok = { λ s h i. record { kind = kind_of_number s.kind h i } };
+    ghost inverse = { λ n. record { number = n } };
 }
 
 impl Stage {
-    pub const RISING: Stage = Stage {
-        kind: Kind::Rising,
-    };
+    ghost use Rattle.planner.specs.Stages.{number_of, Numbered};
 
-    pub const MET: Stage = Stage { kind: Kind::Met };
-
-    pub const WAITING: Stage = Stage {
-        kind: Kind::Waiting,
-    };
-
-    pub const HELD: Stage = Stage { kind: Kind::Held };
-
-    pub fn stopped(limit: usize) -> Stage
-        requires { limit < 20 }
-        ensures { result ≡ limit }
+    pub fn of(kind: Kind) -> Stage
+        requires { Numbered kind }
+        ensures { result ≡ number_of kind }
     {
-        Stage {
-            kind: Kind::Stopped(limit as u8),
+        let number = match kind {
+            Kind::Rising => 20,
+            Kind::Met => 21,
+            Kind::Waiting => 22,
+            Kind::Held => 23,
+            Kind::Stopped(limit) => limit as u8,
+        };
+        Stage { number }
+    }
+
+    pub fn kind(self) -> Kind
+        ensures value { number_of result ≡ self }
+        ensures numbered { Numbered result }
+    {
+        match self.number {
+            20 => Kind::Rising,
+            21 => Kind::Met,
+            22 => Kind::Waiting,
+            23 => Kind::Held,
+            limit => Kind::Stopped(usize::from(limit)),
         }
-    }
-
-    pub fn rises(self) -> bool
-        ensures { result ≡ eqb self 20 }
-    {
-        matches!(self.kind, Kind::Rising)
-    }
-
-    pub fn waits(self) -> bool
-        ensures { result ≡ eqb self 22 }
-    {
-        matches!(self.kind, Kind::Waiting)
     }
 }

@@ -6,7 +6,7 @@ ghost use Rattle.planner.specs.Engine.{start_stage, start_weight, Started};
 
 use crate::flows::Flows;
 use crate::limits::{give, take};
-use crate::stage::Stage;
+use crate::stage::{Kind, Stage};
 use crate::tables::Tables;
 
 impl Tables {
@@ -18,13 +18,13 @@ impl Tables {
         let minimum = u64::from(flows.minima[cell]);
         let weight = u64::from(flows.weights[cell]);
         if 0 < minimum {
-            self.stages[cell] = Stage::WAITING;
+            self.stages[cell] = Stage::of(Kind::Waiting);
             take(flows.cards, cell, minimum, &mut self.left);
         } else if 0 < flows.demands[cell] {
-            self.stages[cell] = Stage::RISING;
+            self.stages[cell] = Stage::of(Kind::Rising);
             give(flows.cards, cell, weight, &mut self.parts);
         } else {
-            self.stages[cell] = Stage::MET;
+            self.stages[cell] = Stage::of(Kind::Met);
         }
     }
 

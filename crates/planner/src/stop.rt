@@ -3,6 +3,7 @@ ghost use Rattle.std.specs.Prelude.{◌*◌, ◌≤◌, ◌<◌, ◌≡◌, fals
 ghost use Rattle.laws.specs.Lists.{cells};
 ghost use Rattle.fairness.specs.Filling.{some};
 ghost use Rattle.planner.specs.Sizes.{most_asked, most_base};
+ghost use Rattle.planner.specs.Stages.{number_of, Numbered};
 ghost use Rattle.planner.specs.Tables.{Spares, Halted};
 ghost use Rattle.planner.specs.Engine.{met_at, met_rate, met_weight, met_stage, MetRoom, MetTo, Lightest, Light};
 
@@ -10,7 +11,7 @@ use crate::filling::Filling;
 use crate::flows::Flows;
 use crate::level::Level;
 use crate::limits::take;
-use crate::stage::Stage;
+use crate::stage::{Kind, Stage};
 use crate::tables::Tables;
 
 // Whether some flow met its demand, and a number that no demand of a flow which goes on rising is below. It is no option: the
@@ -23,11 +24,11 @@ pub struct Met {
 
 impl Tables {
     // Gives the flow of a cell its rate, and marks why it stopped.
-    pub fn stop(&mut self, cards: bool, cell: usize, stage: Stage, x: u64, weight: u64)
-        requires { (cell < 64) × Spares cards cell x weight self.old }
-        ensures { Halted cards cell stage x weight self.old self.new }
+    pub fn stop(&mut self, cards: bool, cell: usize, kind: Kind, x: u64, weight: u64)
+        requires { (cell < 64) × Numbered kind × Spares cards cell x weight self.old }
+        ensures { Halted cards cell (number_of kind) x weight self.old self.new }
     {
-        self.stages[cell] = stage;
+        self.stages[cell] = Stage::of(kind);
         take(cards, cell, x, &mut self.left);
         take(cards, cell, weight, &mut self.parts);
     }
@@ -39,9 +40,9 @@ impl Tables {
         ensures lightest { Lightest result met (cells flows.now.demands.now cell) (cells self.new.stages cell) }
         ensures halted { Halted flows.now.cards cell (met_stage base level flows.now.demands.now flows.now.weights.now self.old.stages cell) (met_rate base level flows.now.demands.now flows.now.weights.now self.old.stages cell) (met_weight base level flows.now.demands.now flows.now.weights.now self.old.stages cell) self.old self.new }
     {
-        if !self.stages[cell].rises() {
+        let Kind::Rising = self.stages[cell].kind() else {
             return met;
-        }
+        };
         let asked = u64::from(flows.demands[cell]);
         let share = u64::from(flows.weights[cell]);
         if level.high * share < asked * (base * level.parts) {
@@ -50,7 +51,7 @@ impl Tables {
                 least: asked.min(met.least),
             };
         }
-        self.stop(flows.cards, cell, Stage::MET, asked * base, share);
+        self.stop(flows.cards, cell, Kind::Met, asked * base, share);
         Met {
             any: true,
             least: met.least,
