@@ -11,9 +11,6 @@ use lib.Seq.{get_or-set_same, get_or-set_other}
 use Rattle.laws.specs.Lists.{cells}
 use Rattle.laws.proofs.Search.{eq_or_not, true_or_false}
 use Rattle.fairness.specs.Total.{on}
-use Rattle.switch.specs.Cells.{input_of, output_of, input_limit, output_limit}
-use Rattle.switch.specs.declared.port.Input.{Input}
-use Rattle.switch.specs.declared.port.Output.{Output}
 use Rattle.planner.specs.Limits.{limits_of, through}
 use Rattle.planner.specs.Tables.{Passed, Changed, Lowered}
 use Rattle.planner.proofs.Passing.{few_limits, on_other, on_same, on_ports, on_cards}
@@ -54,23 +51,20 @@ hit_next {hits} {To} {old} {new} so_far i low fresh y to =
     others l e (inr n) =
         let other : l ≡ i → ⊥ = λ q. n (sym q) in get_or-set_other new i l y 0 other ∙ so_far.others l (omega arith)
 
--- The numbers of the two ports' limits, as calls work them out.
-pub input_number : {c l : ℕ} {u : Input} → c < 64 → l ≡ input_limit u → u ≡ input_of c → l ≡ c / 8
-input_number low limit of = omega (arith, limit ∙ ap input_limit of)
-
-pub output_number : (c : ℕ) {l : ℕ} {v : Output} → l ≡ output_limit v → v ≡ output_of c → l ≡ 8 + c % 8
-output_number c limit of = limit ∙ ap output_limit of
-
--- One limit after the other is changed. Each still has what it had, for they are different ones.
 -- The limits are changed one after the other: the input's, the output's, and those of their cards.
-module _ {cards : Bool} {c : ℕ} {Fit : ℕ → Type 0} (To : ℕ → ℕ → Type 0) (low : c < 64) {t : List ℕ} (passed : Passed cards c Fit t)
-    {i j : ℕ} (input : i ≡ c / 8) (output : j ≡ 8 + c % 8) where
+module _ {cards : Bool} {c : ℕ} {Fit : ℕ → Type 0} (To : ℕ → ℕ → Type 0) (low : c < 64) {t : List ℕ} (passed : Passed cards c Fit t) where
+  abbrev i : ℕ
+  i = c / 8
+
+  abbrev j : ℕ
+  j = 8 + c % 8
+
   -- a limit that is not hit yet is as it was
-  fits : {hits : ℕ → ℕ} {new : List ℕ} → Hit hits To t new → (l k : ℕ) → k ≡ l → l < limits_of cards → through l c ≡ true → hits k ≡ 0
+  fits : {hits : ℕ → ℕ} {new : List ℕ} → Hit hits To t new → (k : ℕ) → k < limits_of cards → through k c ≡ true → hits k ≡ 0
       → (k < length t) × Fit (cells new k)
-  fits so_far l k e h m fresh = (
+  fits so_far k h m fresh = (
     omega (arith, passed.long, (few_limits cards).1),
-    rw (so_far.others k fresh, e) (passed.each l h m),
+    rw (so_far.others k fresh) (passed.each k h m),
   )
 
   changed : {hits : ℕ → ℕ} {new : List ℕ} → Hit hits To t new → ((l : ℕ) → l < limits_of cards → on (through l c) 1 ≡ hits l)
@@ -84,7 +78,7 @@ module _ {cards : Bool} {c : ℕ} {Fit : ℕ → Type 0} (To : ℕ → ℕ → T
 
   first : (i < length t) × Fit (cells t i)
   first =
-      fits (hit_none To t) (c / 8) i input (omega (arith, (few_limits cards).0)) (passes_input c low) refl
+      fits (hit_none To t) i (omega (arith, (few_limits cards).0)) (passes_input c low) refl
 
   pub at_input : Fit (cells t i)
   at_input = first.1
@@ -95,7 +89,7 @@ module _ {cards : Bool} {c : ℕ} {Fit : ℕ → Type 0} (To : ℕ → ℕ → T
 
     second : (j < length t) × Fit (cells (set t i y₁) j)
     second =
-        fits one (8 + c % 8) j output (omega (arith, (few_limits cards).0)) (passes_output c low)
+        fits one j (omega (arith, (few_limits cards).0)) (passes_output c low)
         (omega (arith, on_other i j 1 (λ e. omega arith)))
 
     pub at_output : Fit (cells (set t i y₁) j)
@@ -110,7 +104,7 @@ module _ {cards : Bool} {c : ℕ} {Fit : ℕ → Type 0} (To : ℕ → ℕ → T
 
       pub changed_ports : cards ≡ false → Changed cards c To t t₂
       changed_ports without =
-          changed two (λ l h. let h' : l < 16 = rw without at h in rw (input, output) (omega (arith, on_ports c low 1 l h')))
+          changed two (λ l h. let h' : l < 16 = rw without at h in omega (arith, on_ports c low 1 l h'))
 
       module _ (with : cards ≡ true) where
         abbrev k : ℕ
@@ -123,7 +117,7 @@ module _ {cards : Bool} {c : ℕ} {Fit : ℕ → Type 0} (To : ℕ → ℕ → T
         past_ports l h = omega (arith, on_other i l 1 (λ e. omega arith), on_other j l 1 (λ e. omega arith))
 
         third : (k < length t) × Fit (cells t₂ k)
-        third = fits two k k refl (rw with (omega arith)) (passes_input_card c low) (past_ports k (omega arith))
+        third = fits two k (rw with (omega arith)) (passes_input_card c low) (past_ports k (omega arith))
 
         pub at_input_card : Fit (cells t₂ k)
         at_input_card = third.1
@@ -136,7 +130,7 @@ module _ {cards : Bool} {c : ℕ} {Fit : ℕ → Type 0} (To : ℕ → ℕ → T
           past_cards = omega (arith, past_ports m (omega arith), on_other k m 1 (λ e. omega arith))
 
           fourth : (m < length t) × Fit (cells (set t₂ k y₃) m)
-          fourth = fits three m m refl (rw with (omega arith)) (passes_output_card c low) past_cards
+          fourth = fits three m (rw with (omega arith)) (passes_output_card c low) past_cards
 
           pub at_output_card : Fit (cells (set t₂ k y₃) m)
           at_output_card = fourth.1
@@ -144,7 +138,7 @@ module _ {cards : Bool} {c : ℕ} {Fit : ℕ → Type 0} (To : ℕ → ℕ → T
           pub changed_cards : (y₄ : ℕ) → To (cells (set t₂ k y₃) m) y₄ → Changed cards c To t (set (set t₂ k y₃) m y₄)
           changed_cards y₄ to₄ =
               changed (hit_next three m fourth.0 past_cards y₄ to₄)
-              (λ l h. let h' : l < 20 = rw with at h in rw (input, output) (omega (arith, on_cards c low 1 l h')))
+              (λ l h. let h' : l < 20 = rw with at h in omega (arith, on_cards c low 1 l h'))
 
 -- What takes x off each of the limits gives the flow x, and what puts x on each of them takes x back.
 module _ {cards : Bool} {c x : ℕ} {To : ℕ → ℕ → Type 0} {old new : List ℕ} (by : Changed cards c To old new) where

@@ -2,15 +2,13 @@
 ghost use Rattle.std.specs.Prelude.{◌<◌};
 ghost use Rattle.planner.specs.Tables.{Passed, Covers, Holds, Changed, Lowered};
 
-use switch::port::{Input, Output};
-
-// Changes the number of each limit that the flow of a cell passes.
+// Changes the number of each limit that the flow of a cell passes: its input's, its output's and, with cards, those of their cards.
 fn change<F: Fn(u64) -> u64>(cards: bool, cell: usize, table: &mut [u64; 20], to: F)
     requires { (cell < 64) × Passed cards cell (F.pre to) table.old }
     ensures { Changed cards cell (F.post to) table.old table.new }
 {
-    let input = Input::of(cell as u64).limit() as usize;
-    let output = Output::of(cell as u64).limit() as usize;
+    let input = cell / 8;
+    let output = 8 + cell % 8;
     table[input] = to(table[input]);
     table[output] = to(table[output]);
     if cards {

@@ -60,13 +60,14 @@ impl Tables {
         requires { (cell < 64) × (limit < 20) × (high ≤ most_high) × (through limit cell ≡ on_card limit cell) × Spares flows.now.cards cell (halt_rate limit high flows.now.weights.now self.old.stages cell) (halt_weight limit flows.now.weights.now self.old.stages cell) self.old }
         ensures { Halted flows.now.cards cell (halt_stage limit self.old.stages cell) (halt_rate limit high flows.now.weights.now self.old.stages cell) (halt_weight limit flows.now.weights.now self.old.stages cell) self.old self.new }
     {
-        if (limit < 18) | (18 + cell % 8 / 4 == limit) {
-            let share = u64::from(flows.weights[cell]);
-            match self.stages[cell].kind() {
-                Kind::Rising => self.stop(flows.cards, cell, Kind::Stopped(limit), share * high, share),
-                Kind::Waiting => self.stages[cell] = Stage::of(Kind::Held),
-                _ => {}
+        let passes = (limit < 18) | (18 + cell % 8 / 4 == limit);
+        match self.stages[cell].kind() {
+            Kind::Waiting if passes => self.stages[cell] = Stage::of(Kind::Held),
+            Kind::Rising if passes => {
+                let share = u64::from(flows.weights[cell]);
+                self.stop(flows.cards, cell, Kind::Stopped(limit), share * high, share);
             }
+            _ => {}
         }
     }
 

@@ -48,16 +48,22 @@ impl Stage {
         Stage { number }
     }
 
+    // What is asked for most often is tried first.
     pub fn kind(self) -> Kind
         ensures value { number_of result ≡ self }
         ensures numbered { Numbered result }
     {
-        match self.number {
-            20 => Kind::Rising,
-            21 => Kind::Met,
-            22 => Kind::Waiting,
-            23 => Kind::Held,
-            limit => Kind::Stopped(usize::from(limit)),
+        let number = self.number;
+        if number == 20 {
+            Kind::Rising
+        } else if number < 20 {
+            Kind::Stopped(usize::from(number))
+        } else if number == 21 {
+            Kind::Met
+        } else if number == 22 {
+            Kind::Waiting
+        } else {
+            Kind::Held
         }
     }
 }
