@@ -57,17 +57,16 @@ impl Tables {
     // Stops the flow of a cell: a rising one at the level, a waiting one where it is. The walk over an output card comes past
     // cells of the other card, and they are left as they are.
     fn halt(&mut self, flows: &Flows, cell: usize, limit: usize, high: u64)
-        requires { (cell < 64) × (limit < 20) × (high ≤ most_high) × (through limit cell ≡ on_card limit cell) × Spares flows.now.cards cell (halt_rate limit high flows.now.weights.now self.old.stages cell) (halt_weight limit flows.now.weights.now self.old.stages cell) self.old }
+        requires { (cell < 64) × (limit < limits_of flows.now.cards) × (high ≤ most_high) × (through limit cell ≡ on_card limit cell) × Spares flows.now.cards cell (halt_rate limit high flows.now.weights.now self.old.stages cell) (halt_weight limit flows.now.weights.now self.old.stages cell) self.old }
         ensures { Halted flows.now.cards cell (halt_stage limit self.old.stages cell) (halt_rate limit high flows.now.weights.now self.old.stages cell) (halt_weight limit flows.now.weights.now self.old.stages cell) self.old self.new }
     {
-        let passes = (limit < 18) | (18 + cell % 8 / 4 == limit);
-        match self.stages[cell].kind() {
-            Kind::Waiting if passes => self.stages[cell] = Stage::of(Kind::Held),
-            Kind::Rising if passes => {
-                let share = u64::from(flows.weights[cell]);
-                self.stop(flows.cards, cell, Kind::Stopped(limit), share * high, share);
+        if !flows.cards | (limit < 18) | (18 + cell % 8 / 4 == limit) {
+            let share = u64::from(flows.weights[cell]);
+            match self.stages[cell].kind() {
+                Kind::Waiting => self.stages[cell] = Stage::of(Kind::Held),
+                Kind::Rising => self.stop(flows.cards, cell, Kind::Stopped(limit), share * high, share),
+                _ => {}
             }
-            _ => {}
         }
     }
 

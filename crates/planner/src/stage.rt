@@ -54,10 +54,10 @@ impl Stage {
         ensures numbered { Numbered result }
     {
         let number = self.number;
-        if number == 20 {
-            Kind::Rising
-        } else if number < 20 {
+        if number < 20 {
             Kind::Stopped(usize::from(number))
+        } else if number == 20 {
+            Kind::Rising
         } else if number == 21 {
             Kind::Met
         } else if number == 22 {

@@ -38,7 +38,7 @@ pub halt-requires : goal.halt-requires
 halt-requires c =
     let t = (goal.at.halt-requires c).In-loop-cell in (
       low t,
-      omega (arith, (few_limits c.args.flows.now.cards).1),
+      c.requires.0,
       c.requires.1,
       (steps t).here c.loop-cell.cell (before_end t) (visited t).0,
       (
