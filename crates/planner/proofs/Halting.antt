@@ -30,6 +30,11 @@ module _ (f : Flows) (limit high : ℕ) (t : Tables) where
   walk_here h (inl (l, on, swept)) = (on, swept)
   walk_here h (inr (l, swept)) = absurd (omega arith)
 
+  -- And at its end all cells are done.
+  pub walk_done : {cell : ℕ} {new : Tables} → end_of limit ≤ cell → Walked cell new → SweptTo 64 new
+  walk_done h (inl (l, on, swept)) = absurd (omega arith)
+  walk_done h (inr (l, swept)) = swept
+
   module _ (walk : Walk limit) where
     untouched : (c : ℕ) → through limit c ≡ false
         → (halt_stage limit t.stages c ≡ cells t.stages c) × (halt_rate limit high f.weights.now t.stages c ≡ 0)

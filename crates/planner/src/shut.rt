@@ -76,10 +76,8 @@ impl Tables {
         ensures { HaltTo flows.now limit high 64 self.old self.new }
     {
         let area = area_of(limit);
-        let mut cell = area.first;
-        while cell < area.end {
+        for cell in (area.first..area.end).step_by(area.step) {
             self.halt(flows, cell, limit, high);
-            cell = cell + area.step;
         }
     }
 }

@@ -1,11 +1,14 @@
 -- `halt_all` meets its contract: the walk goes over the cells of the limit.
-use Rattle.std.proofs.Common.{◌≡◌, ◌<◌, ap, rules, arith}
+use Rattle.std.proofs.Common.{◌+◌, ◌≡◌, ◌<◌, ◌≤◌, ap, rules, arith}
 use Rattle.laws.specs.Lists.{cells}
-use Rattle.planner.specs.Areas.{end_of}
+use Rattle.planner.specs.Areas.{end_of, step_of}
+use Rattle.planner.specs.Tables.{Halted}
+use Rattle.planner.specs.Engine.{halt_rate, halt_weight, halt_stage}
+use Rattle.planner.specs.declared.tables.Tables.{Tables}
 use Rattle.planner.proofs.Passing.{few_limits}
 use Rattle.planner.proofs.Areas.{OnLine, Walk, walk_of}
 use Rattle.planner.proofs.Walks.{covers_next}
-use Rattle.planner.proofs.Halting.{SweptTo, walk_here, walk_starts, walk_goes_on}
+use Rattle.planner.proofs.Halting.{SweptTo, Walked, walk_here, walk_starts, walk_goes_on, walk_done}
 use Rattle.planner.proofs.tables.Tables.halt_all.Goals as goal
 use Rattle.planner.proofs.tables.Tables.halt_all.Goals.{In-loop-cell}
 
@@ -47,20 +50,38 @@ halt-requires c =
       ),
     )
 
--- The walk goes on by the limit's step.
-pub overflow_add-cell : goal.overflow_add-cell
-overflow_add-cell c =
-    let t = (goal.at.overflow_add-cell c).In-loop-cell in
-    rw (ap (λ a. a.step) c.area_of-area.ensures) (omega (arith, low t, (steps t).step_low))
+pub nonzero_div-cell-step : goal.nonzero_div-cell-step
+nonzero_div-cell-step c =
+    rw (ap (λ a. a.step) c.area_of-area.ensures)
+    (walk_of c.args.limit (omega (arith, (few_limits c.args.flows.now.cards).1))).step_up
 
+-- The walk goes on by the limit's step.
 pub loop-cell-smaller : goal.loop-cell-smaller
 loop-cell-smaller c =
     let t = (goal.at.loop-cell-smaller c).In-loop-cell in
     rw (ap (λ a. a.step) c.area_of-area.ensures) (omega (arith, low t, (steps t).step_up))
 
+went_on : (c : In-loop-cell) (new : Tables)
+    → Halted c.args.flows.now.cards c.loop-cell.cell (halt_stage c.args.limit c.loop-cell.self.stages c.loop-cell.cell)
+    (halt_rate c.args.limit c.args.high c.args.flows.now.weights.now c.loop-cell.self.stages c.loop-cell.cell)
+    (halt_weight c.args.limit c.args.flows.now.weights.now c.loop-cell.self.stages c.loop-cell.cell) c.loop-cell.self new
+    → Walked c.args.flows.now c.args.limit c.args.high c.args.self.now (c.loop-cell.cell + step_of c.args.limit) new
+went_on c new halted =
+    walk_goes_on c.args.flows.now c.args.limit c.args.high c.args.self.now (steps c) c.loop-cell.cell _ (before_end c)
+    (visited c).0 (visited c).1 new (rw (same c) at halted)
+
 pub loop-cell-preserved : goal.loop-cell-preserved
 loop-cell-preserved c =
-    let t = (goal.at.loop-cell-preserved c).In-loop-cell in
-    rw (ap (λ a. a.step) c.area_of-area.ensures)
-    (walk_goes_on c.args.flows.now c.args.limit c.args.high c.args.self.now (steps t) c.loop-cell.cell _ (before_end t)
-    (visited t).0 (visited t).1 _ (rw (same t) at c.halt.ensures))
+    rw (ap (λ a. a.step) c.area_of-area.ensures) (went_on (goal.at.loop-cell-preserved c).In-loop-cell _ c.halt.ensures)
+
+-- It has come to the end.
+pub returns-2 : goal.returns-2
+returns-2 c =
+    let far : c.area_of-area.result.end ≤ c.loop-cell.cell + c.area_of-area.result.step = omega arith in
+    walk_done c.args.flows.now c.args.limit c.args.high c.args.self.now (rw c.area_of-area.ensures at far)
+    (went_on (goal.at.returns-2 c).In-loop-cell _ c.halt.ensures)
+
+pub returns : goal.returns
+returns c =
+    walk_done c.args.flows.now c.args.limit c.args.high c.args.self.now
+    (rw (ap (λ a. a.end) c.area_of-area.ensures) at c.loop-cell-test.false) c.loop-cell.invariant
