@@ -1,5 +1,5 @@
 // The stage of every flow at the start.
-ghost use Rattle.std.specs.Prelude.{◌<◌, ◌≡◌, replicate};
+ghost use Rattle.std.specs.Prelude.{◌<◌, ◌≡◌, ◌||◌, ltb, replicate};
 ghost use Rattle.laws.specs.Lists.{cells};
 ghost use Rattle.planner.specs.Tables.{Covers, Holds, Roomy, Shared, Begun};
 ghost use Rattle.planner.specs.Engine.{start_stage, start_weight, Started};
@@ -10,21 +10,26 @@ use crate::stage::{Kind, Stage};
 use crate::tables::Tables;
 
 impl Tables {
-    // A flow with a minimum has it at once and waits; any other rises, unless it asks for nothing.
-    fn begin(&mut self, flows: &Flows, cell: usize)
+    // A flow with a minimum has it at once and waits; any other rises, unless it asks for nothing. Answers whether some flow waits,
+    // if it is told that of the flows before.
+    fn begin(&mut self, flows: &Flows, cell: usize, held: bool) -> bool
         requires { (cell < 64) × Covers flows.now.cards cell (cells flows.now.minima.now cell) self.old.left × Holds flows.now.cards cell (cells flows.now.weights.now cell) self.old.parts }
-        ensures { Begun flows.now.cards cell (start_stage flows.now.demands.now flows.now.minima.now cell) (cells flows.now.minima.now cell) (start_weight flows.now.demands.now flows.now.minima.now flows.now.weights.now cell) self.old self.new }
+        ensures waits { result ≡ (held || ltb 0 (cells flows.now.minima.now cell)) }
+        ensures begun { Begun flows.now.cards cell (start_stage flows.now.demands.now flows.now.minima.now cell) (cells flows.now.minima.now cell) (start_weight flows.now.demands.now flows.now.minima.now flows.now.weights.now cell) self.old self.new }
     {
         let minimum = u64::from(flows.minima[cell]);
         let weight = u64::from(flows.weights[cell]);
         if 0 < minimum {
             self.stages[cell] = Stage::of(Kind::Waiting);
             take(flows.cards, cell, minimum, &mut self.left);
+            true
         } else if 0 < flows.demands[cell] {
             self.stages[cell] = Stage::of(Kind::Rising);
             give(flows.cards, cell, weight, &mut self.parts);
+            held
         } else {
             self.stages[cell] = Stage::of(Kind::Met);
+            held
         }
     }
 
@@ -35,8 +40,7 @@ impl Tables {
     {
         let mut held = false;
         for cell in 0..64 {
-            self.begin(flows, cell);
-            held = held | (0 < flows.minima[cell]);
+            held = self.begin(flows, cell, held);
         }
         held
     }

@@ -13,8 +13,8 @@ loop-cell-init c =
       added = added_none _ _ c.requires.2;
     }
 
-pub begin-requires : goal.begin-requires
-begin-requires c =
+pub begin-held-requires : goal.begin-held-requires
+begin-held-requires c =
     let low : c.loop-cell.cell < 64 = omega arith in
     let so_far = c.loop-cell.invariant in (
       low,
@@ -25,9 +25,9 @@ begin-requires c =
 pub loop-cell-preserved : goal.loop-cell-preserved
 loop-cell-preserved c =
     let so_far = c.loop-cell.invariant in
-    let done = c.begin.ensures in
+    let done = c.begin-held.ensures.begun in
     record {
-      unheld = unheld_next _ c.loop-cell.cell _ so_far.unheld;
+      unheld = rw c.begin-held.ensures.waits (unheld_next _ c.loop-cell.cell _ so_far.unheld);
       marked = rw done.marked (marked_next _ _ _ c.loop-cell.cell (omega arith) so_far.marked _ refl);
       taken = taken_next _ _ _ _ c.loop-cell.cell so_far.taken _ done.taken;
       added = added_next _ _ c.loop-cell.cell so_far.added done.risen;
