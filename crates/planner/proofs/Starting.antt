@@ -7,18 +7,17 @@ use mathlib.Core.Logic.{◌⊎◌, inl, inr}
 use native.Mathlib.Omega.{arith}
 use native.Mathlib.Nat.{eq-zero-or-pos}
 use lib.Dec.{eqb, ltb}
-use lib.ListN.{length, set, replicate, length-replicate, get_or-replicate}
-use borrow.Author.Tests.{lt-ltb, le-ltb}
+use lib.ListN.{length, replicate, length-replicate, get_or-replicate}
+use borrow.Author.Tests.{lt-ltb}
 use Rattle.laws.specs.Lists.{cells}
 use Rattle.laws.proofs.Lists.{cells-list}
 use Rattle.laws.proofs.Search.{le_or_lt, true_not_false}
 use Rattle.fairness.specs.Total.{on, total}
 use Rattle.fairness.proofs.Sums.{on_at_most, total-le, total_same, total_next, total_up}
 use Rattle.planner.specs.Limits.{through, problem}
-use Rattle.planner.specs.Tables.{Holds, Lowered, Halted, Shared, Added}
-use Rattle.planner.specs.Engine.{rising_at, start_stage, first_stage, first_weight, start_weight, Unheld}
+use Rattle.planner.specs.Tables.{Holds, Lowered, Shared, Added}
+use Rattle.planner.specs.Engine.{rising_at, start_stage, start_weight, Unheld}
 use Rattle.planner.proofs.Stages.{start_stages, limit_small}
-use Rattle.planner.proofs.Walks.{lowered_none}
 
 -- What rises through the limits, from nothing.
 pub zeros_long : {parts : List ℕ} → parts ≡ replicate 20 0 → length parts ≡ 20

@@ -1,12 +1,12 @@
 -- The engine between two turns, and what a turn does to it: it is always a round of the filling, and there is less to be done.
-use Prim.Native.Nat.{ℕ, ◌-◌, ◌*◌, ◌≤◌, ◌<◌}
+use Prim.Native.Nat.{ℕ, ◌*◌, ◌≤◌, ◌<◌}
 use mathlib.Core.Path.{◌≡◌, refl, sym, ap, ◌∙◌, subst}
 use mathlib.Core.Bool.{Bool, true, false, cond}
 use mathlib.Core.List.{List}
 use mathlib.Core.Logic.{◌⊎◌, inl, inr, ◌≢◌}
 use native.Mathlib.Omega.{arith}
 use native.Mathlib.Nat.{mul-le-mul_right, le_trans, mul-le-mul}
-use borrow.Author.Tests.{eq-eqb, ne_eqb, lt-ltb, le-ltb}
+use borrow.Author.Tests.{eq-eqb, ne_eqb}
 use lib.Dec.{eqb}
 use lib.ListN.{length, length-set}
 use Rattle.laws.specs.Lists.{cells, list}
@@ -14,16 +14,16 @@ use Rattle.laws.proofs.Lists.{cells-list, list_same}
 use Rattle.laws.proofs.Search.{le_or_lt, eq_or_not, true_or_false}
 use Rattle.fairness.specs.Total.{on}
 use Rattle.fairness.specs.Problem.{Problem, across}
-use Rattle.fairness.specs.Filling.{State, Next, nothing, fills, reaches, lowest, limit_next, flow_next, next, meets, some, stop_met, shut, free, happen, round, work}
+use Rattle.fairness.specs.Filling.{State, Next, lowest, limit_next, flow_next, next, meets, some, stop_met, shut, free, happen, round, work}
 use Rattle.fairness.specs.Round.{Between}
 use Rattle.fairness.proofs.Sums.{total_same, total-zero}
 use Rattle.fairness.proofs.Some.{none_of_some, some_alike}
 use Rattle.fairness.proofs.Lowest.{lowest_none}
-use Rattle.fairness.proofs.Filling.{fixed_fits, fills_next, reaches_next, never_nothing, round_further}
-use Rattle.planner.specs.Sizes.{most_asked, most_base}
+use Rattle.fairness.proofs.Filling.{fixed_fits, fills_next, reaches_next, round_further}
+use Rattle.planner.specs.Sizes.{most_asked}
 use Rattle.planner.specs.Limits.{limits_of, through}
 use Rattle.planner.specs.Tables.{Roomy, RoomyBy, Taken, Holds}
-use Rattle.planner.specs.Engine.{sharing, state_of, state_at, met_at, met_rate, met_weight, halt_rate, halt_weight, halted_stage}
+use Rattle.planner.specs.Engine.{sharing, state_of, state_at, met_at, met_rate, met_weight, halt_rate, halted_stage}
 use Rattle.planner.specs.Engine.{Engaged, Kept, Light, Modest, MetRoom, MetTo, ShutReady, Shut, Freed, FillsReady, ReachesReady, Happened}
 use Rattle.planner.specs.Engine.{next_of, event_of, next_event, rising_at, waiting_at}
 use Rattle.planner.specs.declared.filling.Filling.{Filling}
@@ -31,7 +31,6 @@ use Rattle.planner.specs.declared.flows.Flows.{Flows}
 use Rattle.planner.specs.declared.level.Event.{Event}
 use Rattle.planner.specs.declared.level.Event.TheVariants as event
 use Rattle.planner.specs.declared.level.Level.{Level}
-use Rattle.planner.specs.declared.tables.Tables.{Tables}
 use Rattle.planner.proofs.Walks.{marked_all}
 use Rattle.planner.proofs.Stages.{met_stages, shut_stages, done_met, done_shut, done_free, limit_small}
 use Rattle.planner.proofs.State.{met_same, state_met, state_met_none, waiting_cell, rising_cell}
@@ -39,7 +38,7 @@ use Rattle.planner.proofs.Events.{state_shut, state_free}
 use Rattle.planner.proofs.Kept.{kept_met, met_fits, kept_shut, shut_fits, kept_free}
 use Rattle.planner.proofs.NextLevel.{limits_same, flows_same}
 use Rattle.planner.proofs.LastTurn.{limits_now, levels_listed}
-use Rattle.planner.proofs.Bounds.{base_small, left_small, parts_small, met_covered, shut_covered, weight_small, minimum_small}
+use Rattle.planner.proofs.Bounds.{base_small, met_covered, shut_covered, weight_small, minimum_small}
 
 taken_alike : {cards : Bool} {x y : ℕ → ℕ} {old new : List ℕ} → ((c : ℕ) → c < 64 → x c ≡ y c) → Taken cards 64 x old new
     → Taken cards 64 y old new

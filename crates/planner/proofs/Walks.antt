@@ -7,13 +7,13 @@ use mathlib.Core.Logic.{◌⊎◌, inl, inr}
 use native.Mathlib.Omega.{arith}
 use native.Mathlib.Nat.{le_dest}
 use lib.ListN.{length, set, take, drop, length-set, length-append, length-drop}
-use lib.Seq.{get_or-set_same, get_or-set_other, set-get_or, ext_get_or}
+use lib.Seq.{get_or-set_same, get_or-set_other, ext_get_or}
 use Rattle.laws.specs.Lists.{cells, list}
 use Rattle.laws.proofs.Lists.{cells-list, length-list}
 use Rattle.laws.proofs.Search.{le_or_lt, eq_or_not}
 use Rattle.fairness.specs.Total.{on, total}
 use Rattle.fairness.proofs.Sums.{on_nothing, total_next, total_up, total_past}
-use Rattle.planner.specs.Limits.{limits_of, through}
+use Rattle.planner.specs.Limits.{through}
 use Rattle.std.proofs.lemmas.List.{get_or_append_left, get_or-append_right, get_or-take, get_or-drop, length-take-le}
 use Rattle.planner.specs.Tables.{Covers, Lowered, Halted, Roomy, Scaled, Taken, Marked, Swept}
 use Rattle.planner.specs.declared.tables.Tables.{Tables}

@@ -1,6 +1,6 @@
 -- The engine's tables, and the state of a filling that they stand for. What a stopped flow has is told by its stage, so that
 -- only tables of the limits grow with the base.
-use Rattle.std.specs.Prelude.{ℕ, ◌+◌, ◌-◌, ◌*◌, ◌≤◌, ◌<◌, ◌≡◌, Bool, true, false, cond, ◌&&◌, List, [], Option, None, Some, ◌≢◌, eqb, leb, ltb, length, set}
+use Rattle.std.specs.Prelude.{ℕ, ◌+◌, ◌*◌, ◌≤◌, ◌<◌, ◌≡◌, Bool, true, false, cond, ◌&&◌, List, [], Option, None, Some, ◌≢◌, eqb, leb, ltb, length, set}
 use Rattle.laws.specs.Lists.{cells, list}
 use Rattle.fairness.specs.Total.{on}
 use Rattle.fairness.specs.Product.{sum, product}

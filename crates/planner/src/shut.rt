@@ -64,7 +64,13 @@ impl Tables {
             let share = u64::from(flows.weights[cell]);
             match self.stages[cell].kind() {
                 Kind::Waiting => self.stages[cell] = Stage::of(Kind::Held),
-                Kind::Rising => self.stop(flows.cards, cell, Kind::Stopped(limit), share * high, share),
+                Kind::Rising => self.stop(
+                    flows.cards,
+                    cell,
+                    Kind::Stopped(limit),
+                    share * high,
+                    share,
+                ),
                 _ => {}
             }
         }

@@ -1,12 +1,11 @@
 -- `worked_out` meets its contract: fair rates, reduced and with their reasons, are the plan.
-use Rattle.std.proofs.Common.{◌≡◌, List, ℕ, false, length, replicate, refl, sym, ap₂, ◌∙◌, subst, rules, arith}
+use Rattle.std.proofs.Common.{◌≡◌, List, ℕ, false, length, replicate, sym, ap₂, ◌∙◌, subst, rules}
 use Rattle.std.proofs.Math.Nat.{le_trans}
 use Rattle.fairness.specs.Fairness.{Fair}
 use Rattle.fairness.specs.Filling.{over}
 use Rattle.worked.specs.Reason.{reasons_at}
 use Rattle.planner.specs.Limits.{problem}
 use Rattle.planner.specs.Engine.{Modest}
-use Rattle.planner.proofs.Bounds.{weight_small, minimum_small}
 use Rattle.planner.proofs.Ports.{modest_ports}
 use Rattle.planner.proofs.Answer.{plan_of_fair}
 use Rattle.planner.proofs.plan.worked_out.Goals as goal

@@ -1,5 +1,5 @@
 -- `scale` meets its contract: an entry is still as it was when its turn comes.
-use Rattle.std.proofs.Common.{◌≤◌, ◌<◌, ◌≡◌, ◌∙◌, arith, length, take, refl}
+use Rattle.std.proofs.Common.{◌≤◌, ◌<◌, ◌≡◌, arith, length, take}
 use Rattle.std.proofs.Math.Nat.{mul-le-mul}
 use Rattle.std.proofs.lemmas.List.{get_or-take, length-take-le}
 use Rattle.laws.specs.Lists.{cells}
