@@ -9,10 +9,10 @@ use lib.Dec.{eqb}
 use lib.ListN.{length, set, length-set}
 use lib.Seq.{get_or-set_same, get_or-set_other}
 use Rattle.laws.specs.Lists.{cells}
-use Rattle.laws.proofs.Search.{eq_or_not, true_or_false}
+use Rattle.laws.proofs.Search.{eq_or_not}
 use Rattle.fairness.specs.Total.{on}
 use Rattle.planner.specs.Limits.{limits_of, through}
-use Rattle.planner.specs.Tables.{Passed, Changed, Lowered}
+use Rattle.planner.specs.Tables.{Passed, Changed}
 use Rattle.planner.proofs.Passing.{few_limits, on_other, on_same, on_ports, on_cards}
 use Rattle.planner.proofs.Passing.{passes_input, passes_output, passes_input_card, passes_output_card}
 
@@ -139,19 +139,3 @@ module _ {cards : Bool} {c : ℕ} {Fit : ℕ → Type 0} (To : ℕ → ℕ → T
           changed_cards y₄ to₄ =
               changed (hit_next three m fourth.0 past_cards y₄ to₄)
               (λ l h. let h' : l < 20 = rw with at h in omega (arith, on_cards c low 1 l h'))
-
--- What takes x off each of the limits gives the flow x, and what puts x on each of them takes x back.
-module _ {cards : Bool} {c x : ℕ} {To : ℕ → ℕ → Type 0} {old new : List ℕ} (by : Changed cards c To old new) where
-  pub lowered : ((y z : ℕ) → To y z → z + x ≡ y) → Lowered cards c x old new
-  lowered less = record { long = by.long; each = λ l h. go l h (true_or_false (through l c)) }
-    where
-      go : (l : ℕ) → l < limits_of cards → (through l c ≡ true) ⊎ (through l c ≡ false) → cells new l + on (through l c) x ≡ cells old l
-      go l h (inl t) = rw t (less _ _ (by.passed l h t))
-      go l h (inr f) = rw f (omega (arith, by.others l h f))
-
-  pub raised : ((y z : ℕ) → To y z → z ≡ y + x) → Lowered cards c x new old
-  raised more = record { long = (by.long.1, by.long.0); each = λ l h. go l h (true_or_false (through l c)) }
-    where
-      go : (l : ℕ) → l < limits_of cards → (through l c ≡ true) ⊎ (through l c ≡ false) → cells old l + on (through l c) x ≡ cells new l
-      go l h (inl t) = rw t (sym (more _ _ (by.passed l h t)))
-      go l h (inr f) = rw f (omega (arith, by.others l h f))

@@ -12,16 +12,11 @@ use Rattle.laws.specs.Lists.{cells, list}
 use Rattle.laws.proofs.Lists.{cells-list, length-list}
 use Rattle.laws.proofs.Search.{le_or_lt, eq_or_not}
 use Rattle.fairness.specs.Total.{on, total}
-use Rattle.fairness.proofs.Sums.{on_nothing, total_next, total_up, total_past}
+use Rattle.fairness.proofs.Sums.{total_next, total_up, total_past}
 use Rattle.planner.specs.Limits.{through}
 use Rattle.std.proofs.lemmas.List.{get_or_append_left, get_or-append_right, get_or-take, get_or-drop, length-take-le}
 use Rattle.planner.specs.Tables.{Covers, Lowered, Halted, Roomy, Scaled, Taken, Marked, Swept}
 use Rattle.planner.specs.declared.tables.Tables.{Tables}
-
--- A flow that is given nothing changes no limit, and one that keeps its stage changes nothing.
-pub lowered_none : (cards : Bool) (c x : ℕ) (t : List ℕ) → length t ≡ 20 → x ≡ 0 → Lowered cards c x t t
-lowered_none cards c x t long e =
-    record { long = (long, long); each = λ l h. omega (arith, on_nothing (through l c) x e) }
 
 module _ (cards : Bool) (x : ℕ → ℕ) (old new : List ℕ) where
   pub taken_none : length old ≡ 20 → Taken cards 0 x old old

@@ -1,6 +1,6 @@
 -- The engine's tables, and the state of a filling that they stand for. What a stopped flow has is told by its stage, so that
 -- only tables of the limits grow with the base.
-use Rattle.std.specs.Prelude.{ℕ, ◌+◌, ◌*◌, ◌≤◌, ◌<◌, ◌≡◌, Bool, true, false, cond, ◌&&◌, List, [], Option, None, Some, ◌≢◌, eqb, leb, ltb, length, set}
+use Rattle.std.specs.Prelude.{ℕ, ◌+◌, ◌*◌, ◌≤◌, ◌<◌, ◌≡◌, Bool, true, false, cond, ◌&&◌, List, [], Option, None, Some, ◌≢◌, eqb, leb, ltb, length, set, replicate}
 use Rattle.laws.specs.Lists.{cells, list}
 use Rattle.fairness.specs.Total.{on}
 use Rattle.fairness.specs.Product.{sum, product}
@@ -10,7 +10,7 @@ use Rattle.fairness.specs.Round.{Between, busy_limits, busy_weight}
 use Rattle.fairness.specs.Filling.{over, State, Next, Event, nothing, fills, reaches, never, lowest}
 use Rattle.planner.specs.Sizes.{most_asked, most_base, most_high, most_parts}
 use Rattle.planner.specs.Limits.{limits_of, through, problem}
-use Rattle.planner.specs.Tables.{Added, Bounded, Holds, Lowered, Roomy, RoomyBy, Scaled, SparesAll, Swept, Taken}
+use Rattle.planner.specs.Tables.{Added, Begun, Bounded, Covers, Halted, Holds, Lowered, Roomy, RoomyBy, Scaled, Shared, Spares, SparesAll, Swept, Taken}
 use Rattle.planner.specs.declared.filling.Filling.{Filling}
 use Rattle.planner.specs.declared.flows.Flows.{Flows}
 use Rattle.planner.specs.declared.level.Event.{Event as LevelEvent}
@@ -50,9 +50,13 @@ state_of P b stages levels =
       waiting = list 64 (waiting_at P stages);
     }
 
--- The same of a filling, and the rates that it has come to, which are told without the capacities.
+-- The same of a filling, and the rates that it has come to, of one flow and of all: they are told without the capacities.
 abbrev pub state_at : Problem → Filling → State
 state_at P at = state_of P at.base at.tables.stages at.levels
+
+abbrev pub rate_in : Flows → Filling → ℕ → ℕ
+rate_in f at c =
+    rate_at at.base (cells f.demands.now c) (cells f.minima.now c) (cells f.weights.now c) (cells at.tables.stages c) at.levels
 
 abbrev pub rates_at : Flows → Filling → List ℕ
 rates_at f at =
@@ -75,7 +79,21 @@ start_weight demands minima weights c = first_weight (cells demands c) (cells mi
 pub record Unheld (n : ℕ) (held : Bool) (minima : List ℕ) : Type 0 where
   pub each : (c : ℕ) → c < n → 0 < cells minima c → held ≡ true
 
--- The flows are set out, and whether some have to wait is told.
+-- There is room for the flow of a cell to begin, and it has begun.
+abbrev pub BeginRoom : Flows → ℕ → Tables → Type 0
+BeginRoom f c t =
+    Covers f.cards c (cells f.minima.now c) t.left × Holds f.cards c (cells f.weights.now c) t.parts
+
+abbrev pub BegunAt : Flows → ℕ → Tables → Tables → Type 0
+BegunAt f c old new =
+    Begun f.cards c (start_stage f.demands.now f.minima.now c) (cells f.minima.now c)
+    (start_weight f.demands.now f.minima.now f.weights.now c) old new
+
+-- There is room for all of them. They are set out, and whether some have to wait is told.
+abbrev pub StartRoom : Flows → Tables → Type 0
+StartRoom f t =
+    Roomy f.cards (cells f.minima.now) t.left × Shared f.cards f.weights.now × (t.parts ≡ replicate 20 0)
+
 pub record Started (f : Flows) (held : Bool) (old new : Tables) : Type 0 where
   pub unheld : Unheld 64 held f.minima.now
   pub stages : new.stages ≡ list 64 (start_stage f.demands.now f.minima.now)
@@ -107,7 +125,22 @@ abbrev pub met_stage : ℕ → Level → List ℕ → List ℕ → List ℕ → 
 met_stage base level demands weights stages c =
     cond (met_at base level.high level.parts demands weights stages c) 21 (cells stages c)
 
--- The tables have room for that, and the first i cells have been walked over.
+-- A flow meets its demand; the tables have room for what it is given, and it has stopped.
+abbrev pub meets_at : Flows → ℕ → Level → Tables → ℕ → Bool
+meets_at f base level t = met_at base level.high level.parts f.demands.now f.weights.now t.stages
+
+abbrev pub MetRoomAt : Flows → ℕ → Level → ℕ → Tables → Type 0
+MetRoomAt f base level c t =
+    Spares f.cards c (met_rate base level f.demands.now f.weights.now t.stages c)
+    (met_weight base level f.demands.now f.weights.now t.stages c) t
+
+abbrev pub MetAt : Flows → ℕ → Level → ℕ → Tables → Tables → Type 0
+MetAt f base level c old new =
+    Halted f.cards c (met_stage base level f.demands.now f.weights.now old.stages c)
+    (met_rate base level f.demands.now f.weights.now old.stages c)
+    (met_weight base level f.demands.now f.weights.now old.stages c) old new
+
+-- The tables have room for all that do, and the first i cells have been walked over.
 abbrev pub MetRoom : Flows → ℕ → Level → Tables → Type 0
 MetRoom f base level t =
     SparesAll f.cards (met_rate base level f.demands.now f.weights.now t.stages)
@@ -128,6 +161,15 @@ halt_weight l weights stages c = on (through l c) (on (eqb (cells stages c) 20) 
 
 abbrev pub halt_stage : ℕ → List ℕ → ℕ → ℕ
 halt_stage l stages c = cond (through l c) (halted_stage l (cells stages c)) (cells stages c)
+
+abbrev pub HaltRoomAt : Flows → ℕ → ℕ → ℕ → Tables → Type 0
+HaltRoomAt f l high c t =
+    Spares f.cards c (halt_rate l high f.weights.now t.stages c) (halt_weight l f.weights.now t.stages c) t
+
+abbrev pub HaltedAt : Flows → ℕ → ℕ → ℕ → Tables → Tables → Type 0
+HaltedAt f l high c old new =
+    Halted f.cards c (halt_stage l old.stages c) (halt_rate l high f.weights.now old.stages c)
+    (halt_weight l f.weights.now old.stages c) old new
 
 abbrev pub HaltRoom : Flows → ℕ → ℕ → Tables → Type 0
 HaltRoom f l high t =

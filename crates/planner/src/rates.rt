@@ -3,7 +3,7 @@ ghost use Rattle.std.specs.Prelude.{◌≤◌, ◌<◌, ◌≡◌};
 ghost use Rattle.laws.specs.Lists.{cells};
 ghost use Rattle.planner.specs.Sizes.{most_base, most_high};
 ghost use Rattle.planner.specs.Tables.{Bounded};
-ghost use Rattle.planner.specs.Engine.{rate_at, rates_at};
+ghost use Rattle.planner.specs.Engine.{rate_in, rates_at};
 
 use crate::filling::Filling;
 use crate::flows::Flows;
@@ -13,7 +13,7 @@ impl Filling {
     // What a flow has is told by its stage: the level of the limit that stopped it, its demand, or its minimum.
     fn rate(&self, flows: &Flows, cell: usize) -> u64
         requires { (cell < 64) × (self.now.base ≤ most_base) × Bounded 20 most_high self.now.levels }
-        ensures { result ≡ rate_at self.now.base (cells flows.now.demands.now cell) (cells flows.now.minima.now cell) (cells flows.now.weights.now cell) (cells self.now.tables.stages cell) self.now.levels }
+        ensures { result ≡ rate_in flows.now self.now cell }
     {
         match self.tables.stages[cell].kind() {
             Kind::Stopped(limit) => u64::from(flows.weights[cell]) * self.levels[limit],

@@ -4,7 +4,7 @@ ghost use Rattle.planner.specs.Sizes.{most_base, most_high, most_parts};
 ghost use Rattle.planner.specs.Limits.{limits_of, through};
 ghost use Rattle.planner.specs.Areas.{on_card, area_of};
 ghost use Rattle.planner.specs.Tables.{Bounded, Spares, Halted, Scaled};
-ghost use Rattle.planner.specs.Engine.{HaltRoom, HaltTo, ShutReady, Shut, halt_rate, halt_weight, halt_stage};
+ghost use Rattle.planner.specs.Engine.{HaltRoomAt, HaltedAt, HaltRoom, HaltTo, ShutReady, Shut};
 
 use crate::filling::Filling;
 use crate::flows::Flows;
@@ -57,8 +57,8 @@ impl Tables {
     // Stops the flow of a cell: a rising one at the level, a waiting one where it is. The walk over an output card comes past
     // cells of the other card, and they are left as they are.
     fn halt(&mut self, flows: &Flows, cell: usize, limit: usize, high: u64)
-        requires { (cell < 64) × (limit < limits_of flows.now.cards) × (high ≤ most_high) × (through limit cell ≡ on_card limit cell) × Spares flows.now.cards cell (halt_rate limit high flows.now.weights.now self.old.stages cell) (halt_weight limit flows.now.weights.now self.old.stages cell) self.old }
-        ensures { Halted flows.now.cards cell (halt_stage limit self.old.stages cell) (halt_rate limit high flows.now.weights.now self.old.stages cell) (halt_weight limit flows.now.weights.now self.old.stages cell) self.old self.new }
+        requires { (cell < 64) × (limit < limits_of flows.now.cards) × (high ≤ most_high) × (through limit cell ≡ on_card limit cell) × HaltRoomAt flows.now limit high cell self.old }
+        ensures { HaltedAt flows.now limit high cell self.old self.new }
     {
         if !flows.cards | (limit < 18) | (18 + cell % 8 / 4 == limit) {
             let share = u64::from(flows.weights[cell]);

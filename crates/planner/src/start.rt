@@ -2,7 +2,7 @@
 ghost use Rattle.std.specs.Prelude.{◌<◌, ◌≡◌, ◌||◌, ltb, replicate};
 ghost use Rattle.laws.specs.Lists.{cells};
 ghost use Rattle.planner.specs.Tables.{Covers, Holds, Roomy, Shared, Begun};
-ghost use Rattle.planner.specs.Engine.{start_stage, start_weight, Started};
+ghost use Rattle.planner.specs.Engine.{BeginRoom, BegunAt, StartRoom, Started};
 
 use crate::flows::Flows;
 use crate::limits::{give, take};
@@ -13,9 +13,9 @@ impl Tables {
     // A flow with a minimum has it at once and waits; any other rises, unless it asks for nothing. Answers whether some flow waits,
     // if it is told that of the flows before.
     fn begin(&mut self, flows: &Flows, cell: usize, held: bool) -> bool
-        requires { (cell < 64) × Covers flows.now.cards cell (cells flows.now.minima.now cell) self.old.left × Holds flows.now.cards cell (cells flows.now.weights.now cell) self.old.parts }
+        requires { (cell < 64) × BeginRoom flows.now cell self.old }
         ensures waits { result ≡ (held || ltb 0 (cells flows.now.minima.now cell)) }
-        ensures begun { Begun flows.now.cards cell (start_stage flows.now.demands.now flows.now.minima.now cell) (cells flows.now.minima.now cell) (start_weight flows.now.demands.now flows.now.minima.now flows.now.weights.now cell) self.old self.new }
+        ensures begun { BegunAt flows.now cell self.old self.new }
     {
         let minimum = u64::from(flows.minima[cell]);
         let weight = u64::from(flows.weights[cell]);
@@ -35,7 +35,7 @@ impl Tables {
 
     // Sets out all flows, and tells whether some have to wait: if none has, the search need not look at flows.
     pub fn start(&mut self, flows: &Flows) -> bool
-        requires { Roomy flows.now.cards (cells flows.now.minima.now) self.old.left × Shared flows.now.cards flows.now.weights.now × (self.old.parts ≡ replicate 20 0) }
+        requires { StartRoom flows.now self.old }
         ensures { Started flows.now result self.old self.new }
     {
         let mut held = false;

@@ -5,7 +5,7 @@ ghost use Rattle.fairness.specs.Filling.{some};
 ghost use Rattle.planner.specs.Sizes.{most_asked, most_base};
 ghost use Rattle.planner.specs.Stages.{number_of, Numbered};
 ghost use Rattle.planner.specs.Tables.{Spares, Halted};
-ghost use Rattle.planner.specs.Engine.{met_at, met_rate, met_weight, met_stage, MetRoom, MetTo, Lightest, Light};
+ghost use Rattle.planner.specs.Engine.{meets_at, MetRoomAt, MetAt, MetRoom, MetTo, Lightest, Light};
 
 use crate::filling::Filling;
 use crate::flows::Flows;
@@ -35,10 +35,10 @@ impl Tables {
 
     // Stops the flow of a cell at its demand, if it rises and has its demand at or below the level.
     fn meet(&mut self, flows: &Flows, cell: usize, base: u64, level: Level, met: Met) -> Met
-        requires { (cell < 64) × (base ≤ most_base) × Spares flows.now.cards cell (met_rate base level flows.now.demands.now flows.now.weights.now self.old.stages cell) (met_weight base level flows.now.demands.now flows.now.weights.now self.old.stages cell) self.old }
-        ensures any_value { result.any ≡ (met_at base level.high level.parts flows.now.demands.now flows.now.weights.now self.old.stages cell || met.any) }
+        requires { (cell < 64) × (base ≤ most_base) × MetRoomAt flows.now base level cell self.old }
+        ensures any_value { result.any ≡ (meets_at flows.now base level self.old cell || met.any) }
         ensures lightest { Lightest result met (cells flows.now.demands.now cell) (cells self.new.stages cell) }
-        ensures halted { Halted flows.now.cards cell (met_stage base level flows.now.demands.now flows.now.weights.now self.old.stages cell) (met_rate base level flows.now.demands.now flows.now.weights.now self.old.stages cell) (met_weight base level flows.now.demands.now flows.now.weights.now self.old.stages cell) self.old self.new }
+        ensures halted { MetAt flows.now base level cell self.old self.new }
     {
         let Kind::Rising = self.stages[cell].kind() else {
             return met;
@@ -61,7 +61,7 @@ impl Tables {
     // Stops every rising flow that has its demand at or below the level.
     fn stop_met(&mut self, flows: &Flows, base: u64, level: Level) -> Met
         requires { (base ≤ most_base) × MetRoom flows.now base level self.old }
-        ensures any_value { result.any ≡ some 64 (met_at base level.high level.parts flows.now.demands.now flows.now.weights.now self.old.stages) }
+        ensures any_value { result.any ≡ some 64 (meets_at flows.now base level self.old) }
         ensures light { Light 64 result.least flows.now.demands.now self.new.stages }
         ensures swept { MetTo flows.now base level 64 self.old self.new }
     {
@@ -82,7 +82,7 @@ impl Filling {
     // weighs more than the heaviest. Answers whether some flow has stopped.
     pub fn stop_some(&mut self, flows: &Flows, level: Level) -> bool
         requires { (self.old.base ≤ most_base) × Light 64 self.old.least flows.now.demands.now self.old.tables.stages × MetRoom flows.now self.old.base level self.old.tables }
-        ensures any_value { result ≡ some 64 (met_at self.old.base level.high level.parts flows.now.demands.now flows.now.weights.now self.old.tables.stages) }
+        ensures any_value { result ≡ some 64 (meets_at flows.now self.old.base level self.old.tables) }
         ensures light { Light 64 self.new.least flows.now.demands.now self.new.tables.stages }
         ensures swept { MetTo flows.now self.old.base level 64 self.old.tables self.new.tables }
         ensures kept { self.new ≡ record self.old { least = self.new.least; tables = self.new.tables } }

@@ -18,8 +18,10 @@ begin-held-requires c =
     let low : c.loop-cell.cell < 64 = omega arith in
     let so_far = c.loop-cell.invariant in (
       low,
-      covers_next _ _ _ _ c.requires.0 c.loop-cell.cell low so_far.taken,
-      holds_next _ c.args.flows.now.demands.now c.args.flows.now.minima.now _ c.requires.1 c.loop-cell.cell low so_far.added,
+      (
+        covers_next _ _ _ _ c.requires.0 c.loop-cell.cell low so_far.taken,
+        holds_next _ c.args.flows.now.demands.now c.args.flows.now.minima.now _ c.requires.1 c.loop-cell.cell low so_far.added,
+      ),
     )
 
 pub loop-cell-preserved : goal.loop-cell-preserved
