@@ -1,6 +1,5 @@
 // The numerators at the end.
 ghost use Rattle.std.specs.Prelude.{◌≤◌, ◌<◌, ◌≡◌};
-ghost use Rattle.laws.specs.Lists.{cells};
 ghost use Rattle.planner.specs.Sizes.{most_base, most_high};
 ghost use Rattle.planner.specs.Tables.{Bounded};
 ghost use Rattle.planner.specs.Engine.{rate_in, rates_at};

@@ -3,7 +3,7 @@ ghost use Rattle.std.specs.Prelude.{◌≤◌, ◌<◌, ◌≡◌};
 ghost use Rattle.planner.specs.Sizes.{most_base, most_high, most_parts};
 ghost use Rattle.planner.specs.Limits.{limits_of, through};
 ghost use Rattle.planner.specs.Areas.{on_card, area_of};
-ghost use Rattle.planner.specs.Tables.{Bounded, Spares, Halted, Scaled};
+ghost use Rattle.planner.specs.Tables.{Bounded, Scaled};
 ghost use Rattle.planner.specs.Engine.{HaltRoomAt, HaltedAt, HaltRoom, HaltTo, ShutReady, Shut};
 
 use crate::filling::Filling;
@@ -55,7 +55,7 @@ fn area_of(limit: usize) -> Area
 
 impl Tables {
     // Stops the flow of a cell: a rising one at the level, a waiting one where it is. The walk over an output card comes past
-    // cells of the other card, and they are left as they are.
+    // cells of the other card, and they are left as they are; without cards every walk comes to the limit's own cells only.
     fn halt(&mut self, flows: &Flows, cell: usize, limit: usize, high: u64)
         requires { (cell < 64) × (limit < limits_of flows.now.cards) × (high ≤ most_high) × (through limit cell ≡ on_card limit cell) × HaltRoomAt flows.now limit high cell self.old }
         ensures { HaltedAt flows.now limit high cell self.old self.new }

@@ -1,7 +1,6 @@
 // The stage of every flow at the start.
-ghost use Rattle.std.specs.Prelude.{◌<◌, ◌≡◌, ◌||◌, ltb, replicate};
+ghost use Rattle.std.specs.Prelude.{◌<◌, ◌≡◌, ◌||◌, ltb};
 ghost use Rattle.laws.specs.Lists.{cells};
-ghost use Rattle.planner.specs.Tables.{Covers, Holds, Roomy, Shared, Begun};
 ghost use Rattle.planner.specs.Engine.{BeginRoom, BegunAt, StartRoom, Started};
 
 use crate::flows::Flows;
@@ -10,8 +9,8 @@ use crate::stage::{Kind, Stage};
 use crate::tables::Tables;
 
 impl Tables {
-    // A flow with a minimum has it at once and waits; any other rises, unless it asks for nothing. Answers whether some flow waits,
-    // if it is told that of the flows before.
+    // A flow with a minimum has it at once and waits; any other rises, unless it asks for nothing. Whether some flow waits is handed
+    // in and answered, so that only a flow with a minimum changes it.
     fn begin(&mut self, flows: &Flows, cell: usize, held: bool) -> bool
         requires { (cell < 64) × BeginRoom flows.now cell self.old }
         ensures waits { result ≡ (held || ltb 0 (cells flows.now.minima.now cell)) }

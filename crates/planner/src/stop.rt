@@ -1,8 +1,8 @@
 // Flows that stop, at their demand.
-ghost use Rattle.std.specs.Prelude.{◌*◌, ◌≤◌, ◌<◌, ◌≡◌, false, ◌||◌};
+ghost use Rattle.std.specs.Prelude.{◌≤◌, ◌<◌, ◌≡◌, ◌||◌};
 ghost use Rattle.laws.specs.Lists.{cells};
 ghost use Rattle.fairness.specs.Filling.{some};
-ghost use Rattle.planner.specs.Sizes.{most_asked, most_base};
+ghost use Rattle.planner.specs.Sizes.{most_base};
 ghost use Rattle.planner.specs.Stages.{number_of, Numbered};
 ghost use Rattle.planner.specs.Tables.{Spares, Halted};
 ghost use Rattle.planner.specs.Engine.{meets_at, MetRoomAt, MetAt, MetRoom, MetTo, Lightest, Light};
@@ -13,6 +13,7 @@ use crate::level::Level;
 use crate::limits::take;
 use crate::stage::{Kind, Stage};
 use crate::tables::Tables;
+use switch::request::Request;
 
 // Whether some flow met its demand, and a number that no demand of a flow which goes on rising is below. It is no option: the
 // number is known whether a flow met its demand or not.
@@ -65,10 +66,9 @@ impl Tables {
         ensures light { Light 64 result.least flows.now.demands.now self.new.stages }
         ensures swept { MetTo flows.now base level 64 self.old self.new }
     {
-        // no demand is above this
         let mut met = Met {
             any: false,
-            least: 16_777_216,
+            least: u64::from(Request::DEMAND),
         };
         for cell in 0..64 {
             met = self.meet(flows, cell, base, level, met);
