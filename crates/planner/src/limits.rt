@@ -19,6 +19,7 @@ fn change<F: Fn(u64) -> u64>(cards: bool, cell: usize, table: &mut [u64; 20], to
     }
 }
 
+// Takes x off the limits that the flow of a cell passes.
 pub fn take(cards: bool, cell: usize, x: u64, table: &mut [u64; 20])
     requires { (cell < 64) × Covers cards cell x table.old }
     ensures { Lowered cards cell x table.old table.new }
@@ -26,6 +27,7 @@ pub fn take(cards: bool, cell: usize, x: u64, table: &mut [u64; 20])
     change(cards, cell, table, |y| y - x);
 }
 
+// Puts x on them.
 pub fn give(cards: bool, cell: usize, x: u64, table: &mut [u64; 20])
     requires { (cell < 64) × Holds cards cell x table.old }
     ensures { Lowered cards cell x table.new table.old }

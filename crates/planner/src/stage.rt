@@ -48,7 +48,7 @@ impl Stage {
         Stage { number }
     }
 
-    // What is asked for most often is tried first.
+    // What the walks ask for most is tried first.
     pub fn kind(self) -> Kind
         ensures value { number_of result ≡ self }
         ensures numbered { Numbered result }
