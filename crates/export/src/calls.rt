@@ -17,9 +17,7 @@ use switch::verdict::Verdict;
 pub extern "C" fn rate_plan_read(request: &[u8]) -> u64
     ensures { result ≡ code_of (read_verdict request.now) }
 {
-    let answer = read_request(request);
-    let given = answer.verdict;
-    code(given)
+    code(read_request(request).verdict)
 }
 
 // Reads a request file, works its plan out and writes the plan file.
@@ -28,12 +26,11 @@ pub extern "C" fn rate_plan_write(request: &[u8], plan: &mut [u8]) -> u64
     ensures value { result ≡ code_of (plan_verdict request.now plan.old) }
     ensures plan_after { plan.new ≡ plan_laid request.now plan.old }
 {
-    let answer = read_request(request);
-    let verdict = answer.verdict;
-    if let Verdict::Accepted = verdict {
-        return code(write_plan(answer.request, plan));
+    let read = read_request(request);
+    match read.verdict {
+        Verdict::Accepted => code(write_plan(read.request, plan)),
+        Verdict::Refused(_) => code(read.verdict),
     }
-    code(verdict)
 }
 
 // The verdict on a plan file.
@@ -50,12 +47,10 @@ pub extern "C" fn rate_plan_check(plan: &[u8]) -> u64
 pub extern "C" fn rate_plan_choose(proposed: &[u8], running: &[u8]) -> u64
     ensures { result ≡ choice_of proposed.now running.now }
 {
-    let first = check(proposed);
-    if let Verdict::Accepted = first {
+    if check(proposed) == Verdict::Accepted {
         return 1;
     }
-    let second = check(running);
-    if let Verdict::Accepted = second {
+    if check(running) == Verdict::Accepted {
         return 2;
     }
     0
@@ -67,6 +62,5 @@ pub extern "C" fn rate_plan_list(request: &[u8], text: &mut [u8]) -> u64
     ensures value { result ≡ (listed request.now text.old).length }
     ensures text_after { text.new ≡ listed_in request.now text.old }
 {
-    let answer = list(request, text);
-    answer.length as u64
+    list(request, text).length as u64
 }

@@ -1,3 +1,5 @@
--- What the check of a plan file and the writers rest on beside their rows.
+-- What the readers, the check of a plan file and the writers rest on beside their rows.
 pub mod Checked
-pub mod Saved
+pub mod Made
+pub mod Reading
+pub mod Refusing

@@ -1,37 +1,36 @@
 // The check of a plan file.
-ghost use Rattle.std.specs.Prelude.{◌≡◌};
-ghost use Rattle.formats.specs.PlanFile.{check_verdict};
+ghost use Rattle.std.specs.Prelude.{◌≡◌, [], ◌∷◌};
+ghost use Rattle.switch.specs.RequestRows.{request_verdict};
+ghost use Rattle.switch.specs.Rows.{joined, row_verdict, or_else, verdict_of};
+ghost use Rattle.judging.specs.PlanRows.{half_not_zero, base_row};
+ghost use Rattle.worked.specs.Worked.{rates_worked};
+ghost use Rattle.formats.specs.FileRows.{spare_row};
+ghost use Rattle.formats.specs.PlanFile.{base_in, base_differs_row, check_verdict};
 
-use crate::format::{base_rows, frame_rows, request_rows, zeros_row};
+use crate::format::{base_rows, zeros_row};
 use crate::read::{plan_in, request_in};
-use crate::rows::length_row;
+use crate::rows::frame_rows;
 use checker::rates::rates;
+use requests::check::check as check_request;
+use switch::plan::Plan;
+use switch::request::Request;
 use switch::verdict::Verdict;
 
-// Rows 1 to 15. Every row is asked of any bytes, since an accepted file needs them all; the first that refuses counts.
-fn all_rows(file: &[u8]) -> Verdict
-    ensures { result ≡ check_verdict file.now }
+// Rows 4 to 15, of a file's blocks and of the request and the plan that were read there.
+fn content_rows(file: &[u8], request: &Request, plan: &Plan) -> Verdict
+    ensures { result ≡ or_else (request_verdict request.now) (or_else (row_verdict (joined (spare_row 0 83 44 file.now) (joined (joined (half_not_zero request.now plan.now 0) (spare_row 1 75 52 file.now)) (joined (half_not_zero request.now plan.now 1) (spare_row 2 75 52 file.now))))) (or_else (verdict_of (base_row (base_in file.now 0) ∷ base_differs_row file.now ∷ [])) (rates_worked request.now plan.now))) }
 {
-    let request = request_in(file);
-    let plan = plan_in(file);
-    let numerators = plan.numerators;
-    let reasons = plan.reasons;
-    let frame = frame_rows(file);
-    let numbers = request_rows(request);
-    let zeros = zeros_row(file, request.m, request.n, &numerators, &reasons);
-    let bases = base_rows(file, plan.base);
-    let format = frame.or_else(numbers.or_else(zeros.or_else(bases)));
-    format.or_else(rates(request, plan))
+    check_request(*request)?;
+    zeros_row(file, request, plan)?;
+    base_rows(file)?;
+    rates(request, plan)
 }
 
-// The length is asked first, although every row could be asked of any bytes: the compiler then knows that the words are there,
-// and leaves out the test of each.
+// The first row that refuses counts. The length is asked before anything is read, although any bytes could be: the compiler then
+// knows that the words are there, and leaves out the test of each.
 pub fn check(file: &[u8]) -> Verdict
     ensures { result ≡ check_verdict file.now }
 {
-    let length = length_row(file, 1536);
-    if let Verdict::Accepted = length {
-        return all_rows(file);
-    }
-    length
+    frame_rows(file, &[1, 2, 3])?;
+    content_rows(file, &request_in(file), &plan_in(file))
 }

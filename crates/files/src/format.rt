@@ -1,53 +1,46 @@
-// The rows that a plan file meets before its rates are looked at: 1 to 9.
-ghost use Rattle.std.specs.Prelude.{◌≡◌, [], ◌∷◌};
-ghost use Rattle.switch.specs.RequestRows.{request_verdict};
+// The rows of a plan file that speak of what stands in it, and not of whether it is right: 7, from the request's spare words on, to 9.
+ghost use Rattle.std.specs.Prelude.{◌≡◌, [], ◌+◌, ◌∷◌};
+ghost use Rattle.switch.specs.Halves.{half_number};
 ghost use Rattle.switch.specs.Rows.{row_verdict, verdict_of, joined};
-ghost use Rattle.switch.specs.Tables.{request_of};
-ghost use Rattle.judging.specs.PlanRows.{plan_with, half_not_zero, base_row};
-ghost use Rattle.formats.specs.FileRows.{length_row, check_row, kind_row, spare_row};
-ghost use Rattle.formats.specs.PlanFile.{base_differs_row};
+ghost use Rattle.judging.specs.PlanRows.{half_not_zero, base_row};
+ghost use Rattle.formats.specs.FileRows.{spare_row};
+ghost use Rattle.formats.specs.PlanFile.{base_in, base_differs_row};
 
 use crate::read::base_in;
-use crate::rows::{check_row, kind_row, length_row, spare_row};
+use crate::rows::spare_row;
 use checker::format::{base_row, unused};
-use requests::check::check;
+use switch::plan::{Half, Plan};
 use switch::request::Request;
 use switch::verdict::{Cause, Verdict, refused};
 
-// Rows 1 to 3.
-pub fn frame_rows(file: &[u8]) -> Verdict
-    ensures { result ≡ verdict_of (length_row 1536 file.now ∷ check_row 3 file.now ∷ kind_row (1 ∷ 2 ∷ 3 ∷ []) file.now ∷ []) }
+// Row 7 in the block of a half: its unused cells, and then its spare words.
+#[tactic(auto, using(switch::proofs::Rows::joined_left, switch::proofs::Rows::joined_right))]
+fn half_zeros(file: &[u8], request: &Request, plan: &Plan, half: Half) -> Verdict
+    ensures { result ≡ row_verdict (joined (half_not_zero request.now plan.now (half_number half)) (spare_row (1 + half_number half) 75 52 file.now)) }
 {
-    let length = length_row(file, 1536);
-    let checks = check_row(file, 3);
-    let kinds = kind_row(file, &[1, 2, 3]);
-    length.or_else(checks.or_else(kinds))
-}
-
-// Rows 4 to 7, of the request's own words.
-pub fn request_rows(request: Request) -> Verdict
-    ensures { result ≡ request_verdict request }
-{
-    check(request)
+    unused(request, plan, half)?;
+    spare_row(file, 1 + half.number(), 75..127)
 }
 
 // Row 7, from the request's spare words on.
-pub fn zeros_row(file: &[u8], m: u32, n: u32, numerators: &[u64; 64], reasons: &[u8; 64]) -> Verdict
-    ensures { result ≡ row_verdict (joined (spare_row 0 83 44 file.now) (joined (half_not_zero (request_of m n [] [] []) (plan_with 0 numerators.now reasons.now) 0) (joined (spare_row 1 75 52 file.now) (joined (half_not_zero (request_of m n [] [] []) (plan_with 0 numerators.now reasons.now) 1) (spare_row 2 75 52 file.now))))) }
+#[tactic(auto, using(switch::proofs::Rows::joined_left, switch::proofs::Rows::joined_right))]
+pub fn zeros_row(file: &[u8], request: &Request, plan: &Plan) -> Verdict
+    ensures { result ≡ row_verdict (joined (spare_row 0 83 44 file.now) (joined (joined (half_not_zero request.now plan.now 0) (spare_row 1 75 52 file.now)) (joined (half_not_zero request.now plan.now 1) (spare_row 2 75 52 file.now)))) }
 {
-    let request = spare_row(file, 0, 83, 44);
-    let first = unused(m, n, false, numerators, reasons).or_else(spare_row(file, 1, 75, 52));
-    let second = unused(m, n, true, numerators, reasons).or_else(spare_row(file, 2, 75, 52));
-    request.or_else(first.or_else(second))
+    spare_row(file, 0, 83..127)?;
+    half_zeros(file, request, plan, Half::First)?;
+    half_zeros(file, request, plan, Half::Second)
 }
 
 // Rows 8 and 9.
-pub fn base_rows(file: &[u8], base: u64) -> Verdict
-    ensures { result ≡ verdict_of (base_row base ∷ base_differs_row file.now ∷ []) }
+#[tactic(auto, unfolding(switch::specs::Rows::verdict_of, switch::specs::Rows::row_verdict, switch::specs::Rows::first_from))]
+pub fn base_rows(file: &[u8]) -> Verdict
+    ensures { result ≡ verdict_of (base_row (base_in file.now 0) ∷ base_differs_row file.now ∷ []) }
 {
-    let range = base_row(base);
-    if base_in(file, 1) == base_in(file, 0) {
-        return range;
+    let base = base_in(file, Half::First);
+    base_row(base)?;
+    if base_in(file, Half::Second) != base {
+        return refused(Cause::BaseDiffers, 257);
     }
-    range.or_else(refused(Cause::BaseDiffers, 257))
+    Verdict::Accepted
 }

@@ -7,4 +7,4 @@ use Rattle.export.proofs.calls.rate_plan_read.Goals as goal
 
 pub code-requires : goal.code-requires
 code-requires c =
-    subst Placed (sym (ap (λ (x : RequestRead). x.verdict) c.read_request-answer.ensures)) (read_placed c.args.request.now)
+    subst Placed (sym (ap (λ (x : RequestRead). x.verdict) c.read_request.ensures)) (read_placed c.args.request.now)

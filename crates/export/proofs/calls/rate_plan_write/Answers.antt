@@ -25,13 +25,13 @@ module _ (file : List ℕ) (read : RequestRead) (is_read : read ≡ request_read
 
 pub code-requires : goal.code-requires
 code-requires c =
-    subst Placed (sym c.write_plan.ensures.value) (write_placed 1536 c.read_request-answer.result.request c.args.plan.now)
+    subst Placed (sym c.write_plan.ensures.value) (write_placed 1536 c.read_request-read.result.request c.args.plan.now)
 
 pub returns-in-Accepted-clause-value : goal.returns-in-Accepted-clause-value
 returns-in-Accepted-clause-value c =
     let file = c.args.request.now in
     let buffer = c.args.plan.now in
-    let read = c.read_request-answer in
+    let read = c.read_request-read in
     c.code.ensures
     ∙ ap code_of (c.write_plan.ensures.value
     ∙ ap (λ (r : Request). write_verdict 1536 r buffer) (request file read.result read.ensures c.in-Accepted.is)
@@ -41,26 +41,26 @@ pub returns-in-Accepted-clause-plan_after : goal.returns-in-Accepted-clause-plan
 returns-in-Accepted-clause-plan_after c =
     let file = c.args.request.now in
     let buffer = c.args.plan.now in
-    let read = c.read_request-answer in
+    let read = c.read_request-read in
     c.write_plan.ensures.buffer_after
     ∙ ap (λ (r : Request). plan_written r buffer) (request file read.result read.ensures c.in-Accepted.is)
     ∙ sym (laid_of_read file buffer (accepted file read.result read.ensures c.in-Accepted.is))
 
-pub code-requires-2 : goal.code-requires-2
-code-requires-2 c =
-    let read = c.read_request-answer in
+pub code-requires-in-Refused : goal.code-requires-in-Refused
+code-requires-in-Refused c =
+    let read = c.read_request-read in
     subst Placed (sym (verdict c.args.request.now read.result read.ensures)) (read_placed c.args.request.now)
 
-pub returns-clause-value : goal.returns-clause-value
-returns-clause-value c =
+pub returns-in-Refused-clause-value : goal.returns-in-Refused-clause-value
+returns-in-Refused-clause-value c =
     let file = c.args.request.now in
-    let read = c.read_request-answer in
-    let refused = sym (verdict file read.result read.ensures) ∙ c.in_default.is in
-    c.code-2.ensures ∙ ap code_of (c.in_default.is ∙ sym (verdict_of_refused file c.args.plan.now _ refused))
+    let read = c.read_request-read in
+    let refused = sym (verdict file read.result read.ensures) ∙ c.in-Refused.is in
+    c.code-in-Refused.ensures ∙ ap code_of (c.in-Refused.is ∙ sym (verdict_of_refused file c.args.plan.now _ refused))
 
-pub returns-clause-plan_after : goal.returns-clause-plan_after
-returns-clause-plan_after c =
+pub returns-in-Refused-clause-plan_after : goal.returns-in-Refused-clause-plan_after
+returns-in-Refused-clause-plan_after c =
     let file = c.args.request.now in
-    let read = c.read_request-answer in
-    let refused = sym (verdict file read.result read.ensures) ∙ c.in_default.is in
+    let read = c.read_request-read in
+    let refused = sym (verdict file read.result read.ensures) ∙ c.in-Refused.is in
     sym (laid_of_refused file c.args.plan.now _ refused)

@@ -1,16 +1,13 @@
--- `check` meets its contract: a refused length is the table's first row, and otherwise all rows are asked.
-use Rattle.std.proofs.Common.{◌≡◌, sym, List, ◌∷◌}
-use Rattle.switch.specs.Rows.{Row, row_verdict, verdict_of}
-use Rattle.switch.specs.declared.verdict.Refusal.{Refusal}
-use Rattle.switch.specs.declared.verdict.Verdict.{Verdict}
-use Rattle.switch.specs.declared.verdict.Verdict.TheVariants.{Refused}
+-- `check` meets its contract: what the frame refuses is refused, and after it the contents decide.
+use Rattle.std.proofs.Common.{◌∙◌}
+use Rattle.files.proofs.Checked.{frame_refuses, content_decides}
 use Rattle.files.proofs.check.check.Goals as goal
 
--- What the first row refuses, all rows refuse alike.
-refused_first : (row : Row) (rest : List Row) (v : Verdict) (x : Refusal) → v ≡ row_verdict row → v ≡ Refused x
-    → v ≡ verdict_of (row ∷ rest)
-unfolding verdict_of
-refused_first row rest v x e r = rw (sym e, r)
+pub returns-in_err-frame_rows : goal.returns-in_err-frame_rows
+returns-in_err-frame_rows c =
+    c.from_residual.ensures ∙ frame_refuses c.args.file.now c.frame_rows.ensures c.in_err-frame_rows.ensures
 
 pub returns : goal.returns
-returns c = refused_first _ _ _ _ c.length_row-length.ensures c.in_default.is
+returns c =
+    content_decides c.args.file.now c.frame_rows.ensures c.in_ok-frame_rows.ensures c.request_in.ensures c.plan_in.ensures
+    c.content_rows.ensures

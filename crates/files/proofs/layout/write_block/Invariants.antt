@@ -1,13 +1,11 @@
--- The words so far lie at the front, and each fits its 32 bits.
-use Rattle.std.proofs.Common.{◌≡◌, ℕ, ◌*◌, ◌<◌, ◌++◌, drop}
-use Rattle.words.specs.Words.{laid}
-use Rattle.switch.specs.Tables.{request_of}
-use Rattle.formats.specs.RequestFile.{request_word}
+-- The words so far lie in the block, and each fits its 32 bits.
+use Rattle.std.proofs.Common.{◌≡◌, ℕ, ◌<◌}
+use Rattle.words.proofs.Sealed.{laid_in}
 use Rattle.files.proofs.layout.write_block.Given as goal
 
 abbrev pub invariant-loop-i : goal.invariant-loop-i
-invariant-loop-i l =
+invariant-loop-i g l =
     record {
-      front : l.buffer ≡ laid (request_word (request_of l.m l.n l.inputs l.outputs l.demands)) l.i ++ drop (4 * l.i) l.initial.buffer;
-      fit : (k : ℕ) → k < l.i → request_word (request_of l.m l.n l.inputs l.outputs l.demands) k < 4_294_967_296;
+      inside : l.buffer ≡ laid_in l.initial.buffer l.block (g.C.Content.said l.content) l.i;
+      fit : (k : ℕ) → k < l.i → g.C.Content.said l.content k < 4_294_967_296;
     }

@@ -32,8 +32,8 @@ both_behind a b c buffer e f =
 
 pub returns : goal.returns
 returns c =
-    let r = c.args.request in
-    let p = c.args.plan in
+    let r = c.args.request.now in
+    let p = c.args.plan.now in
     c.write_half-2.ensures
     ∙ ap (put 1024 (plan_block p 1)) (c.write_half.ensures ∙ ap (put 512 (plan_block p 0)) c.write_block.ensures)
     ∙ both_behind (request_file r) (plan_block p 0) (plan_block p 1) c.args.buffer.now (length_file r)
