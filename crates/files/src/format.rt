@@ -18,11 +18,11 @@ use switch::verdict::{Cause, Verdict, refused};
 pub fn zeros_row(file: &[u8], request: &Request, plan: &Plan) -> Verdict
     ensures { result ≡ row_verdict (joined (spare_row 0 83 44 file.now) (joined (half_not_zero request.now plan.now 0) (joined (spare_row 1 75 52 file.now) (joined (half_not_zero request.now plan.now 1) (spare_row 2 75 52 file.now))))) }
 {
-    spare_row(file, 0, 83..127)?;
+    spare_row(file, 0, 83, 44)?;
     unused(request, plan, Half::First)?;
-    spare_row(file, 1, 75..127)?;
+    spare_row(file, 1, 75, 52)?;
     unused(request, plan, Half::Second)?;
-    spare_row(file, 2, 75..127)
+    spare_row(file, 2, 75, 52)
 }
 
 // Rows 8 and 9.
