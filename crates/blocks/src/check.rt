@@ -4,7 +4,7 @@ ghost use Rattle.words.specs.Check.{rotated, taken, check, sealed, start_of, wor
 
 use crate::word::{put, word};
 
-// Rotated left by one bit.
+// Rotated left by one bit: a helper of our own, which document 01 asks for, and not `rotate_left`.
 fn rotated(x: u32) -> u32
     ensures { result ≡ rotated x }
 {
@@ -15,33 +15,29 @@ fn rotated(x: u32) -> u32
 fn taken(sum: u32, word: u32) -> u32
     ensures { result ≡ taken sum word }
 {
-    std::num::wrapping_add_u32(rotated(sum), word)
+    rotated(sum).wrapping_add(word)
 }
 
 // Where the sum of the block with this number starts.
 pub fn start_of(block: u32) -> u32
     ensures { result ≡ start_of block }
 {
-    std::num::wrapping_add_u32(block, 1)
+    block.wrapping_add(1)
 }
 
-// The running sum over the content of a file's block.
+// The running sum over the content of a file's block. By number, since words past the file's end are 0 in the sum too.
 pub fn check(start: u32, file: &[u8], block: u32) -> u32
     ensures { result ≡ check start (word_in file.now block) }
 {
-    let from = 128 * block as u64;
-    let mut sum = start;
-    for i in 0..127 {
-        sum = taken(sum, word(file, from + i));
-    }
-    sum
+    let from = 128 * u64::from(block);
+    (0..127).map(|i| word(file, from + i)).fold(start, taken)
 }
 
 // Whether the block's last word is its check.
 pub fn sealed(start: u32, file: &[u8], block: u32) -> bool
     ensures { result ≡ sealed start (word_in file.now block) }
 {
-    word(file, 128 * block as u64 + 127) == check(start, file, block)
+    word(file, 128 * u64::from(block) + 127) == check(start, file, block)
 }
 
 // Puts the check into the block's last word.
@@ -49,5 +45,5 @@ pub fn seal(start: u32, file: &mut [u8], block: u32)
     ensures { file.new ≡ sealed_in start file.old block }
 {
     let sum = check(start, file, block);
-    put(file, 128 * block as u64 + 127, sum);
+    put(file, 128 * u64::from(block) + 127, sum);
 }

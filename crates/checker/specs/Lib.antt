@@ -1,2 +1,3 @@
 -- What the checker's searches answer.
 pub mod Found
+pub mod Flows

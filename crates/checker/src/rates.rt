@@ -2,12 +2,13 @@
 // demand, and the right reasons.
 ghost use Rattle.std.specs.Prelude.{◌≡◌, ltb, position};
 ghost use Rattle.switch.specs.Rows.{row_verdict};
-ghost use Rattle.worked.specs.Worked.{range_worked, below, free_row, reason_by, reasons_row, rates_worked};
+ghost use Rattle.worked.specs.Worked.{range_worked, below, rates_worked};
+ghost use Rattle.checker.specs.Flows.{row_of_free, row_of_reasons};
 ghost use Rattle.checker.specs.Found.{FirstThat};
 
 use crate::found::refused_if;
 use crate::side::{more_row, scaled, weigh_inputs, weigh_outputs};
-use shares::reason::{INPUT, MET, OUTPUT};
+use shares::reason::{OUTPUT, reason_by};
 use switch::plan::Plan;
 use switch::port::{Input, Output, cell};
 use switch::request::Request;
@@ -34,19 +35,6 @@ fn below(asked: u64, entering: u64, leaving: u64, x: u64) -> bool
     (x < asked) & (x < entering) & (x < leaving)
 }
 
-// The reason of a flow, by the level of its input.
-fn reason_by(asked: u64, entering: u64, x: u64) -> u8
-    ensures { result ≡ reason_by asked entering x }
-{
-    if x == asked {
-        return MET;
-    }
-    if asked < x {
-        return OUTPUT;
-    }
-    if entering <= x { INPUT } else { OUTPUT }
-}
-
 // The flows of a plan, with what they ask for over its base, and from which numerator on each input and each output holds a
 // flow back.
 #[derive(Clone, Copy)]
@@ -62,7 +50,7 @@ impl Flows<'_> {
     // The search for row 14: the first flow that is below its demand and has no bottleneck. The walk over the outputs of the
     // walk over the inputs is left with the cell.
     fn free_cell(&self) -> Option<usize>
-        ensures { FirstThat 0 64 (free_row self.now.request.now.m self.now.request.now.n self.now.asked.now self.now.plan.now.numerators self.now.entering.now self.now.leaving.now).offends result }
+        ensures { FirstThat 0 64 (row_of_free self.now).offends result }
     {
         let found = 'walk: loop {
             for u in 0..self.request.m.min(8) {
@@ -86,7 +74,7 @@ impl Flows<'_> {
 
     // Row 14.
     fn free_row(&self) -> Verdict
-        ensures { result ≡ row_verdict (free_row self.now.request.now.m self.now.request.now.n self.now.asked.now self.now.plan.now.numerators self.now.entering.now self.now.leaving.now) }
+        ensures { result ≡ row_verdict (row_of_free self.now) }
     {
         refused_if(Cause::NoBottleneck, self.free_cell())
     }
@@ -94,7 +82,7 @@ impl Flows<'_> {
     // Row 15. An unused cell has rate 0 of demand 0, and so its reason is 0. (Two loops, so that an input's level is read once: one
     // loop over the cells makes the check of a plan file 5% dearer.)
     fn reasons_row(&self) -> Verdict
-        ensures { result ≡ row_verdict (reasons_row self.now.asked.now self.now.plan.now.numerators self.now.entering.now self.now.plan.now.reasons) }
+        ensures { result ≡ row_verdict (row_of_reasons self.now) }
     {
         for u in 0..8 {
             let from = self.entering[u as usize];

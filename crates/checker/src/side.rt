@@ -5,11 +5,12 @@ ghost use Rattle.std.specs.Prelude.{◌≡◌, ◌*◌, ◌<◌, ℕ, ltb, posit
 ghost use Rattle.std.specs.List.{zip};
 ghost use Rattle.switch.specs.Rows.{row_verdict};
 ghost use Rattle.worked.specs.Port.{no_port, port_of};
-ghost use Rattle.worked.specs.Worked.{scaled, sums, level_of, levels, more_row, weighed, inputs_weighed, outputs_weighed};
+ghost use Rattle.worked.specs.Worked.{scaled, sums, levels, more_row, weighed, inputs_weighed, outputs_weighed};
 
 use crate::found::refused_if;
 use shares::arithmetic::times;
 use shares::port::port;
+use shares::reason::level;
 use switch::plan::Plan;
 use switch::port::{End, Input, Output};
 use switch::request::Request;
@@ -39,18 +40,7 @@ fn ports<P: End>(count: u32, numerators: &[u64; 64]) -> [Port; 8]
     ports
 }
 
-// From which numerator on a port holds a flow back: a port that is not full holds back none, and no flow below its demand
-// has the largest number of all.
-fn level(full: u64, port: Port) -> u64
-    ensures { result ≡ level_of full port.sum port.most }
-{
-    if port.sum == full {
-        port.most
-    } else {
-        u64::MAX
-    }
-}
-
+// From which numerator on each port holds a flow back.
 fn levels(full: &[u64; 8], ports: &[Port; 8]) -> [u64; 8]
     ensures { result ≡ levels full.now (λ k. get_or ports.now k no_port) }
 {

@@ -1,123 +1,88 @@
-// The lines of a text, each put into a buffer that has room for it.
-ghost use Rattle.std.specs.Prelude.{[], ◌+◌, ◌≤◌, ◌<◌, ◌≡◌, length};
-ghost use Rattle.switch.specs.Tables.{request_of};
-ghost use Rattle.judging.specs.PlanRows.{plan_with};
-ghost use Rattle.texts.specs.Appended.{Appended};
-ghost use Rattle.texts.specs.Listing.{first_line, flow_line, input_lines, cell_lines, plan_text, refused_text};
+// The lines of a text, each put behind what is written so far.
+ghost use Rattle.std.specs.Prelude.{◌++◌, ◌<◌, ◌≡◌};
+ghost use Rattle.switch.specs.Within.{Within};
+ghost use Rattle.texts.specs.Listing.{first_line, cell_line, input_lines, cell_lines, plan_text, refused_text};
+ghost use Rattle.listing.specs.Room.{HasRoom};
 
-use crate::text::{field, word};
+use crate::text::Text;
+use switch::plan::Plan;
 use switch::port::{Input, Output, cell};
+use switch::request::Request;
 use switch::verdict::Refusal;
 
-fn first_line(text: &mut [u8], m: u32, n: u32, base: u64) -> usize
-    requires { 0 + length (first_line m n base) ≤ length text.old }
-    ensures { Appended text.old 0 (first_line m n base) text.new result }
+#[tactic(auto, using(crate::proofs::Pieces::pieces), unfolding(texts::specs::Listing::first_line))]
+fn first_line(text: &mut Text, request: &Request, plan: &Plan)
+    requires { HasRoom text.old (first_line request.now.m request.now.n plan.now.base) }
+    ensures { text.new ≡ text.old ++ first_line request.now.m request.now.n plan.now.base }
 {
-    let at = word(text, 0, b"plan ");
-    let at = field(text, at, m as u64, b' ');
-    let at = field(text, at, n as u64, b' ');
-    let at = word(text, at, b"base ");
-    field(text, at, base, b'\n')
+    text.word(b"plan ");
+    text.field(u64::from(request.m), b' ');
+    text.field(u64::from(request.n), b' ');
+    text.word(b"base ");
+    text.field(plan.base, b'\n');
 }
 
 // The line of the flow from `u` to `v`.
-fn flow_line(
-    text: &mut [u8],
-    at: usize,
-    u: Input,
-    v: Output,
-    demand: u32,
-    numerator: u64,
-    reason: u8,
-) -> usize
-    requires { at + length (flow_line u v demand numerator reason) ≤ length text.old }
-    ensures { Appended text.old at (flow_line u v demand numerator reason) text.new result }
+#[tactic(auto, using(crate::proofs::Pieces::pieces), unfolding(texts::specs::Listing::flow_line))]
+fn cell_line(text: &mut Text, request: &Request, plan: &Plan, u: Input, v: Output)
+    requires within { Within request.now }
+    requires used { (u.0 < request.now.m) × (v.0 < request.now.n) }
+    requires room { HasRoom text.old (cell_line request.now plan.now u v) }
+    ensures { text.new ≡ text.old ++ cell_line request.now plan.now u v }
 {
-    let at = field(text, at, u.0 as u64, b' ');
-    let at = field(text, at, v.0 as u64, b' ');
-    let at = field(text, at, demand as u64, b' ');
-    let at = field(text, at, numerator, b' ');
-    field(text, at, reason as u64, b'\n')
+    let c = cell(u, v) as usize;
+    text.field(u64::from(u.0), b' ');
+    text.field(u64::from(v.0), b' ');
+    text.field(u64::from(request.demands[c]), b' ');
+    text.field(plan.numerators[c], b' ');
+    text.field(u64::from(plan.reasons[c]), b'\n');
 }
 
 // The lines of an input's flows, output by output.
-fn input_lines(
-    text: &mut [u8],
-    at: usize,
-    u: Input,
-    n: u32,
-    demands: &[u32],
-    numerators: &[u64],
-    reasons: &[u8],
-) -> usize
-    requires u_bound { (u.0 < 8) × (n ≤ 8) × (length demands.now ≡ 64) × (length numerators.now ≡ 64) × (length reasons.now ≡ 64) }
-    requires u_in_bounds { at + length (input_lines (request_of 0 n [] [] demands.now) (plan_with 0 numerators.now reasons.now) u) ≤ length text.old }
-    ensures { Appended text.old at (input_lines (request_of 0 n [] [] demands.now) (plan_with 0 numerators.now reasons.now) u) text.new result }
+#[tactic(auto, using(crate::proofs::Pieces::texts))]
+fn input_lines(text: &mut Text, request: &Request, plan: &Plan, u: Input)
+    requires within { Within request.now }
+    requires used { u.0 < request.now.m }
+    requires room { HasRoom text.old (input_lines request.now plan.now u) }
+    ensures { text.new ≡ text.old ++ input_lines request.now plan.now u }
 {
-    let mut next = at;
-    for v in 0..n {
-        let c = cell(u, Output(v)) as usize;
-        next = flow_line(
-            text,
-            next,
-            u,
-            Output(v),
-            demands[c],
-            numerators[c],
-            reasons[c],
-        );
+    for v in 0..request.n {
+        cell_line(text, request, plan, u, Output(v));
     }
-    next
 }
 
 // The lines of all flows, input by input.
-fn cell_lines(
-    text: &mut [u8],
-    at: usize,
-    m: u32,
-    n: u32,
-    demands: &[u32],
-    numerators: &[u64],
-    reasons: &[u8],
-) -> usize
-    requires m_bound { (m ≤ 8) × (n ≤ 8) × (length demands.now ≡ 64) × (length numerators.now ≡ 64) × (length reasons.now ≡ 64) }
-    requires reasons_in_bounds { at + length (cell_lines (request_of m n [] [] demands.now) (plan_with 0 numerators.now reasons.now)) ≤ length text.old }
-    ensures { Appended text.old at (cell_lines (request_of m n [] [] demands.now) (plan_with 0 numerators.now reasons.now)) text.new result }
+#[tactic(auto, using(crate::proofs::Pieces::texts))]
+fn cell_lines(text: &mut Text, request: &Request, plan: &Plan)
+    requires within { Within request.now }
+    requires room { HasRoom text.old (cell_lines request.now plan.now) }
+    ensures { text.new ≡ text.old ++ cell_lines request.now plan.now }
 {
-    let mut next = at;
-    for u in 0..m {
-        next = input_lines(text, next, Input(u), n, demands, numerators, reasons);
+    for u in 0..request.m {
+        input_lines(text, request, plan, Input(u));
     }
-    next
 }
 
 // The whole text of a plan.
-pub fn plan_text(
-    text: &mut [u8],
-    m: u32,
-    n: u32,
-    base: u64,
-    demands: &[u32],
-    numerators: &[u64],
-    reasons: &[u8],
-) -> usize
-    requires m_bound { (m ≤ 8) × (n ≤ 8) × (length demands.now ≡ 64) × (length numerators.now ≡ 64) × (length reasons.now ≡ 64) }
-    requires reasons_in_bounds { 0 + length (plan_text (request_of m n [] [] demands.now) (plan_with base numerators.now reasons.now)) ≤ length text.old }
-    ensures { Appended text.old 0 (plan_text (request_of m n [] [] demands.now) (plan_with base numerators.now reasons.now)) text.new result }
+#[tactic(auto, using(crate::proofs::Pieces::pieces), unfolding(texts::specs::Listing::plan_text, texts::specs::Listing::last_line))]
+pub fn plan_text(text: &mut Text, request: &Request, plan: &Plan)
+    requires within { Within request.now }
+    requires room { HasRoom text.old (plan_text request.now plan.now) }
+    ensures { text.new ≡ text.old ++ plan_text request.now plan.now }
 {
-    let at = first_line(text, m, n, base);
-    let at = cell_lines(text, at, m, n, demands, numerators, reasons);
-    let at = word(text, at, b"end ");
-    field(text, at, (m * n) as u64, b'\n')
+    first_line(text, request, plan);
+    cell_lines(text, request, plan);
+    text.word(b"end ");
+    text.field(u64::from(request.m * request.n), b'\n');
 }
 
 // The line of a refusal.
-pub fn refused_text(text: &mut [u8], refusal: Refusal) -> usize
-    requires { 0 + length (refused_text refusal) ≤ length text.old }
-    ensures { Appended text.old 0 (refused_text refusal) text.new result }
+#[tactic(auto, using(crate::proofs::Pieces::pieces), unfolding(texts::specs::Listing::refused_text))]
+pub fn refused_text(text: &mut Text, refusal: Refusal)
+    requires { HasRoom text.old (refused_text refusal) }
+    ensures { text.new ≡ text.old ++ refused_text refusal }
 {
-    let cause = refusal.cause;
-    let at = word(text, 0, b"refused ");
-    let at = field(text, at, cause.number() as u64, b' ');
-    field(text, at, refusal.place, b'\n')
+    text.word(b"refused ");
+    text.field(u64::from(refusal.cause.number()), b' ');
+    text.field(refusal.place, b'\n');
 }

@@ -1,39 +1,76 @@
-// Putting a text into a buffer, piece after piece: each call hands back where the next piece goes.
-ghost use Rattle.std.specs.Prelude.{[], ◌∷◌, ◌++◌, ◌+◌, ◌≤◌, length};
-ghost use Rattle.texts.specs.Appended.{Appended};
+// A text that is being written, piece behind piece, with room for the longest one.
+ghost use Rattle.std.specs.Prelude.{[], ◌∷◌, ◌++◌, ◌≡◌};
 ghost use Rattle.texts.specs.Decimal.{decimal};
+ghost use Rattle.listing.specs.Room.{HasRoom};
 
-// Bytes as they are.
-pub fn word(text: &mut [u8], at: usize, bytes: &[u8]) -> usize
-    requires { at + length bytes.now ≤ length text.old }
-    ensures { Appended text.old at bytes.now text.new result }
-{
-    for i in 0..bytes.len() {
-        text[at + i] = bytes[i];
-    }
-    at + bytes.len()
+use std::marker::Model;
+use texts::list::Listed;
+
+#[derive(Drop)]
+pub struct Text {
+    bytes: [u8; Listed::LONGEST],
+    len: usize,
 }
 
-// A number in decimal. What comes before its last digit is the number a tenth as large.
-fn number(text: &mut [u8], at: usize, x: u64) -> usize
-    requires { at + length (decimal x) ≤ length text.old }
-    ensures { Appended text.old at (decimal x) text.new result }
-{
-    if x < 10 {
-        text[at] = 48 + x as u8;
-        return at + 1;
-    }
-    let last = number(text, at, x / 10);
-    text[last] = 48 + (x % 10) as u8;
-    last + 1
+// Clauses see the bytes that are written so far.
+impl Model for Text {
+    ghost use Rattle.std.specs.Prelude.{ℕ, List, ◌≤◌, take};
+
+    ghost Value = { List ℕ };
+
+    ghost view = { λ t. take t.len t.bytes };
+
+    ghost invariant = { λ t. t.len ≤ 2144 };
 }
 
-// A number, and the byte that comes after it: a space or a line feed.
-pub fn field(text: &mut [u8], at: usize, x: u64, end: u8) -> usize
-    requires { at + length (decimal x ++ (end ∷ [])) ≤ length text.old }
-    ensures { Appended text.old at (decimal x ++ (end ∷ [])) text.new result }
-{
-    let last = number(text, at, x);
-    text[last] = end;
-    last + 1
+impl Text {
+    pub fn new() -> Self
+        ensures { result ≡ [] }
+    {
+        Text {
+            bytes: [0; Listed::LONGEST],
+            len: 0,
+        }
+    }
+
+    pub fn as_bytes(&self) -> &[u8]
+        ensures { result.now ≡ self.now }
+    {
+        &self.bytes[..self.len]
+    }
+
+    // Bytes as they are.
+    pub fn word(&mut self, bytes: &[u8])
+        requires { HasRoom self.old bytes.now }
+        ensures { self.new ≡ self.old ++ bytes.now }
+    {
+        let end = self.len + bytes.len();
+        self.bytes[self.len..end].copy_from_slice(bytes);
+        self.len = end;
+    }
+
+    // A number in decimal: what comes before its last digit is the number a tenth as large. By hand and not by `write!`, which would
+    // answer an error for the want of room, though room is required here, and whose digits are std's and not those of `decimal`.
+    #[tactic(auto, using(crate::proofs::Pieces::digits))]
+    fn number(&mut self, x: u64)
+        requires { HasRoom self.old (decimal x) }
+        ensures { self.new ≡ self.old ++ decimal x }
+    {
+        if x < 10 {
+            self.word(&[b'0' + x as u8]);
+            return;
+        }
+        self.number(x / 10);
+        self.word(&[b'0' + (x % 10) as u8]);
+    }
+
+    // A number, and the byte that comes after it: a space or a line feed.
+    #[tactic(auto, using(crate::proofs::Pieces::pieces))]
+    pub fn field(&mut self, x: u64, end: u8)
+        requires { HasRoom self.old (decimal x ++ (end ∷ [])) }
+        ensures { self.new ≡ self.old ++ (decimal x ++ (end ∷ [])) }
+    {
+        self.number(x);
+        self.word(&[end]);
+    }
 }

@@ -8,8 +8,6 @@ mod rounds;
 mod saved;
 
 fn main() {
-    let mut buffer = io::large_buffer();
-    let length = io::read_full(0, &mut buffer);
-    io::print_decimal(1, rounds::all(&buffer[..length]));
+    io::print_decimal(1, rounds::all());
     io::write_all(1, b"\n");
 }

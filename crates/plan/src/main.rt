@@ -6,12 +6,11 @@ use texts::list::Listed;
 
 // One byte more than a request file has is read, so that a longer file is seen to be longer.
 fn main() {
-    let mut file = [0u8; 513];
+    let mut file = [0; 513];
     let size = io::read_full(0, &mut file);
-    let mut text = [0u8; Listed::LONGEST];
+    let mut text = [0; Listed::LONGEST];
     let listed = list(&file[..size], &mut text);
-    let length = listed.length as usize;
-    if !io::write_all(1, &text[..length]) {
+    if !io::write_all(1, &text[..listed.length as usize]) {
         io::write_all(2, b"plan: the listing could not be written\n");
     }
 }

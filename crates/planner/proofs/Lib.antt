@@ -1,5 +1,4 @@
 -- What the planner's proofs share.
-pub mod Products
 pub mod Passing
 pub mod Lowering
 pub mod Areas

@@ -1,6 +1,6 @@
 -- Tables of the limits, changed at the limits of one flow: its two ports, and with cards its two cards.
-use Prim.Native.Nat.{ℕ, ◌+◌, ◌-◌, ◌/◌, ◌%◌, ◌≤◌, ◌<◌}
-use mathlib.Core.Path.{◌≡◌, refl, sym, ap, ◌∙◌}
+use Prim.Native.Nat.{ℕ, ◌+◌, ◌/◌, ◌%◌, ◌≤◌, ◌<◌}
+use mathlib.Core.Path.{◌≡◌, refl, sym, ap, ◌∙◌, subst}
 use mathlib.Core.Bool.{Bool, true, false}
 use mathlib.Core.List.{List}
 use mathlib.Core.Logic.{◌⊎◌, inl, inr}
@@ -11,104 +11,131 @@ use lib.Seq.{get_or-set_same, get_or-set_other}
 use Rattle.laws.specs.Lists.{cells}
 use Rattle.laws.proofs.Search.{eq_or_not}
 use Rattle.fairness.specs.Total.{on}
-use Rattle.switch.specs.Cells.{input_of, output_of, input_limit, output_limit}
-use Rattle.switch.specs.declared.port.Input.{Input}
-use Rattle.switch.specs.declared.port.Output.{Output}
 use Rattle.planner.specs.Limits.{limits_of, through}
-use Rattle.planner.specs.Tables.{Passed, LoweredAt, Lowered}
+use Rattle.planner.specs.Tables.{Passed, Changed}
 use Rattle.planner.proofs.Passing.{few_limits, on_other, on_same, on_ports, on_cards}
 use Rattle.planner.proofs.Passing.{passes_input, passes_output, passes_input_card, passes_output_card}
 
-pub lowered_at : (i x : ℕ) (t : List ℕ) → i < length t → x ≤ cells t i → LoweredAt i x t (set t i (cells t i - x))
-lowered_at i x t h le = record { long = length-set t i (cells t i - x); each = λ l. go l (eq_or_not i l) }
-  where
-    go : (l : ℕ) → (i ≡ l) ⊎ (i ≡ l → ⊥) → cells (set t i (cells t i - x)) l + on (eqb i l) x ≡ cells t l
-    go l (inl e) = rw (← e, get_or-set_same t i (cells t i - x) 0 h, on_same i x) (omega arith)
-    go l (inr n) =
-        let other : l ≡ i → ⊥ = λ e. n (rw e refl) in
-        rw (get_or-set_other t i l (cells t i - x) 0 other, on_other i l x n) (omega arith)
-
-pub raised_at : (i x : ℕ) (t : List ℕ) → i < length t → LoweredAt i x (set t i (cells t i + x)) t
-raised_at i x t h = record { long = sym (length-set t i (cells t i + x)); each = λ l. go l (eq_or_not i l) }
-  where
-    go : (l : ℕ) → (i ≡ l) ⊎ (i ≡ l → ⊥) → cells t l + on (eqb i l) x ≡ cells (set t i (cells t i + x)) l
-    go l (inl e) = rw (← e, get_or-set_same t i (cells t i + x) 0 h, on_same i x)
-    go l (inr n) =
-        let other : l ≡ i → ⊥ = λ e. n (rw e refl) in
-        rw (get_or-set_other t i l (cells t i + x) 0 other, on_other i l x n) (omega arith)
-
--- The tables differ at most in entry i.
-pub record Only (i : ℕ) (old new : List ℕ) : Type 0 where
+-- How far the changes have come: an entry that was hit is as `To` says, and any other as it was.
+pub record Hit (hits : ℕ → ℕ) (To : ℕ → ℕ → Type 0) (old new : List ℕ) : Type 0 where
   pub long : length new ≡ length old
-  pub each : (l : ℕ) → (i ≡ l → ⊥) → cells new l ≡ cells old l
+  pub passed : (l : ℕ) → 0 < hits l → To (cells old l) (cells new l)
+  pub others : (l : ℕ) → hits l ≡ 0 → cells new l ≡ cells old l
 
-pub only_lower : {i x : ℕ} {old new : List ℕ} → LoweredAt i x old new → Only i old new
-only_lower {i} {x} by = record { long = by.long; each = λ l n. omega (arith, by.each l, on_other i l x n) }
+pub hit_none : (To : ℕ → ℕ → Type 0) (t : List ℕ) → Hit (λ l. 0) To t t
+hit_none To t = record { long = refl; passed = λ l h. absurd (omega arith); others = λ l e. refl }
 
-pub only_higher : {i x : ℕ} {old new : List ℕ} → LoweredAt i x new old → Only i old new
-only_higher {i} {x} by = record { long = sym by.long; each = λ l n. omega (arith, by.each l, on_other i l x n) }
+pub hit_next : {hits : ℕ → ℕ} {To : ℕ → ℕ → Type 0} {old new : List ℕ} → Hit hits To old new → (i : ℕ) → i < length old → hits i ≡ 0
+    → (y : ℕ) → To (cells new i) y → Hit (λ l. hits l + on (eqb i l) 1) To old (set new i y)
+hit_next {hits} {To} {old} {new} so_far i low fresh y to =
+    record {
+      long = length-set new i y ∙ so_far.long;
+      passed = λ l h. passed l h (eq_or_not i l);
+      others = λ l e. others l e (eq_or_not i l);
+    }
+  where
+    there : i < length new
+    there = rw so_far.long low
 
--- The numbers of the two ports' limits, as calls work them out.
-pub input_number : {c l : ℕ} {u : Input} → c < 64 → l ≡ input_limit u → u ≡ input_of c → l ≡ c / 8
-input_number low limit of = omega (arith, limit ∙ ap input_limit of)
+    passed : (l : ℕ) → 0 < hits l + on (eqb i l) 1 → (i ≡ l) ⊎ (i ≡ l → ⊥) → To (cells old l) (cells (set new i y) l)
+    passed l h (inl e) =
+        rw (← e, get_or-set_same new i y 0 there) (subst (λ x. To x y) (so_far.others i fresh) to)
+    passed l h (inr n) =
+        let other : l ≡ i → ⊥ = λ e. n (sym e) in
+        let before : 0 < hits l = omega (arith, on_other i l 1 n) in
+        rw (get_or-set_other new i l y 0 other) (so_far.passed l before)
 
-pub output_number : (c : ℕ) {l : ℕ} {v : Output} → l ≡ output_limit v → v ≡ output_of c → l ≡ 8 + c % 8
-output_number c limit of = limit ∙ ap output_limit of
+    others : (l : ℕ) → hits l + on (eqb i l) 1 ≡ 0 → (i ≡ l) ⊎ (i ≡ l → ⊥) → cells (set new i y) l ≡ cells old l
+    others l e (inl q) =
+        let here : on (eqb i l) 1 ≡ 1 = ap (λ k. on (eqb i k) 1) (sym q) ∙ on_same i 1 in absurd (omega (arith, here, e))
+    others l e (inr n) =
+        let other : l ≡ i → ⊥ = λ q. n (sym q) in get_or-set_other new i l y 0 other ∙ so_far.others l (omega arith)
 
--- One limit after the other is changed. Each still has what it had, for they are different ones.
-module _ {cards : Bool} {c : ℕ} (low : c < 64) {Fit : ℕ → Type 0} {t : List ℕ} (passed : Passed cards c Fit t) {i : ℕ}
-    (input : i ≡ c / 8) where
-  at : (l : ℕ) → l < limits_of cards → through l c ≡ true → (l < length t) × Fit (cells t l)
-  at l h e = (omega (arith, passed.long, (few_limits cards).1), passed.each l h e)
+-- The limits are changed one after the other: the input's, the output's, and those of their cards.
+module _ {cards : Bool} {c : ℕ} {Fit : ℕ → Type 0} (To : ℕ → ℕ → Type 0) (low : c < 64) {t : List ℕ} (passed : Passed cards c Fit t) where
+  abbrev i : ℕ
+  i = c / 8
 
-  pub at_input : (i < length t) × Fit (cells t i)
-  at_input = rw input (at (c / 8) (omega (arith, (few_limits cards).0)) (passes_input c low))
+  abbrev j : ℕ
+  j = 8 + c % 8
 
-  module _ {t₁ : List ℕ} (one : Only i t t₁) {j : ℕ} (output : j ≡ 8 + c % 8) where
-    pub at_output : (j < length t₁) × Fit (cells t₁ j)
-    at_output =
-        let w = at (8 + c % 8) (omega (arith, (few_limits cards).0)) (passes_output c low) in
-        rw output (rw one.long w.0, rw (one.each (8 + c % 8) (λ e. omega arith)) w.1)
+  -- a limit that is not hit yet is as it was
+  fits : {hits : ℕ → ℕ} {new : List ℕ} → Hit hits To t new → (k : ℕ) → k < limits_of cards → through k c ≡ true → hits k ≡ 0
+      → (k < length t) × Fit (cells new k)
+  fits so_far k h m fresh = (
+    omega (arith, passed.long, (few_limits cards).1),
+    rw (so_far.others k fresh) (passed.each k h m),
+  )
 
-    module _ {t₂ : List ℕ} (two : Only j t₁ t₂) (with : cards ≡ true) where
-      pub at_input_card : (16 + c / 32 < length t₂) × Fit (cells t₂ (16 + c / 32))
-      at_input_card =
-          let w = at (16 + c / 32) (rw with (omega arith)) (passes_input_card c low) in (
-            rw (two.long, one.long) w.0,
-            rw (two.each (16 + c / 32) (λ e. omega arith), one.each (16 + c / 32) (λ e. omega arith)) w.1,
-          )
-
-      pub at_output_card : {t₃ : List ℕ} → Only (16 + c / 32) t₂ t₃
-          → (18 + c % 8 / 4 < length t₃) × Fit (cells t₃ (18 + c % 8 / 4))
-      at_output_card three =
-          let w = at (18 + c % 8 / 4) (rw with (omega arith)) (passes_output_card c low) in (
-            rw (three.long, two.long, one.long) w.0,
-            rw (
-              three.each (18 + c % 8 / 4) (λ e. omega arith),
-              two.each (18 + c % 8 / 4) (λ e. omega arith),
-              one.each (18 + c % 8 / 4) (λ e. omega arith),
-            )
-                w.1,
-          )
-
--- And in the end the flow's limits are lowered, each by x.
-module _ {cards : Bool} {c x : ℕ} (low : c < 64) {old new : List ℕ} (long : (length old ≡ 20) × (length new ≡ 20)) {i j : ℕ}
-    (input : i ≡ c / 8) (output : j ≡ 8 + c % 8) where
-  pub lowered_ports : cards ≡ false → ((l : ℕ) → cells new l + (on (eqb i l) x + on (eqb j l) x) ≡ cells old l)
-      → Lowered cards c x old new
-  lowered_ports without by =
+  changed : {hits : ℕ → ℕ} {new : List ℕ} → Hit hits To t new → ((l : ℕ) → l < limits_of cards → on (through l c) 1 ≡ hits l)
+      → Changed cards c To t new
+  changed hit is =
       record {
-        long = long;
-        each = λ l h.
-            let h' : l < 16 = rw without at h in omega (arith, on_ports c low x l h', rw (input, output) at (by l));
+        long = (passed.long, hit.long ∙ passed.long);
+        passed = λ l h e. hit.passed l (let one : on true 1 ≡ _ = rw e at (is l h) in omega arith);
+        others = λ l h e. hit.others l (let none : on false 1 ≡ _ = rw e at (is l h) in omega arith);
       }
 
-  pub lowered_cards : cards ≡ true
-      → ((l : ℕ) → cells new l + (on (eqb i l) x + on (eqb j l) x + on (eqb (16 + c / 32) l) x + on (eqb (18 + c % 8 / 4) l) x)
-      ≡ cells old l)
-      → Lowered cards c x old new
-  lowered_cards with by =
-      record {
-        long = long;
-        each = λ l h. let h' : l < 20 = rw with at h in omega (arith, on_cards c low x l h', rw (input, output) at (by l));
-      }
+  first : (i < length t) × Fit (cells t i)
+  first =
+      fits (hit_none To t) i (omega (arith, (few_limits cards).0)) (passes_input c low) refl
+
+  pub at_input : Fit (cells t i)
+  at_input = first.1
+
+  module _ (y₁ : ℕ) (to₁ : To (cells t i) y₁) where
+    one : Hit (λ l. 0 + on (eqb i l) 1) To t (set t i y₁)
+    one = hit_next (hit_none To t) i first.0 refl y₁ to₁
+
+    second : (j < length t) × Fit (cells (set t i y₁) j)
+    second =
+        fits one j (omega (arith, (few_limits cards).0)) (passes_output c low)
+        (omega (arith, on_other i j 1 (λ e. omega arith)))
+
+    pub at_output : Fit (cells (set t i y₁) j)
+    at_output = second.1
+
+    module _ (y₂ : ℕ) (to₂ : To (cells (set t i y₁) j) y₂) where
+      abbrev t₂ : List ℕ
+      t₂ = set (set t i y₁) j y₂
+
+      two : Hit (λ l. 0 + on (eqb i l) 1 + on (eqb j l) 1) To t t₂
+      two = hit_next one j second.0 (omega (arith, on_other i j 1 (λ e. omega arith))) y₂ to₂
+
+      pub changed_ports : cards ≡ false → Changed cards c To t t₂
+      changed_ports without =
+          changed two (λ l h. let h' : l < 16 = rw without at h in omega (arith, on_ports c low 1 l h'))
+
+      module _ (with : cards ≡ true) where
+        abbrev k : ℕ
+        k = 16 + c / 32
+
+        abbrev m : ℕ
+        m = 18 + c % 8 / 4
+
+        past_ports : (l : ℕ) → 16 ≤ l → 0 + on (eqb i l) 1 + on (eqb j l) 1 ≡ 0
+        past_ports l h = omega (arith, on_other i l 1 (λ e. omega arith), on_other j l 1 (λ e. omega arith))
+
+        third : (k < length t) × Fit (cells t₂ k)
+        third = fits two k (rw with (omega arith)) (passes_input_card c low) (past_ports k (omega arith))
+
+        pub at_input_card : Fit (cells t₂ k)
+        at_input_card = third.1
+
+        module _ (y₃ : ℕ) (to₃ : To (cells t₂ k) y₃) where
+          three : Hit (λ l. 0 + on (eqb i l) 1 + on (eqb j l) 1 + on (eqb k l) 1) To t (set t₂ k y₃)
+          three = hit_next two k third.0 (past_ports k (omega arith)) y₃ to₃
+
+          past_cards : 0 + on (eqb i m) 1 + on (eqb j m) 1 + on (eqb k m) 1 ≡ 0
+          past_cards = omega (arith, past_ports m (omega arith), on_other k m 1 (λ e. omega arith))
+
+          fourth : (m < length t) × Fit (cells (set t₂ k y₃) m)
+          fourth = fits three m (rw with (omega arith)) (passes_output_card c low) past_cards
+
+          pub at_output_card : Fit (cells (set t₂ k y₃) m)
+          at_output_card = fourth.1
+
+          pub changed_cards : (y₄ : ℕ) → To (cells (set t₂ k y₃) m) y₄ → Changed cards c To t (set (set t₂ k y₃) m y₄)
+          changed_cards y₄ to₄ =
+              changed (hit_next three m fourth.0 past_cards y₄ to₄)
+              (λ l h. let h' : l < 20 = rw with at h in omega (arith, on_cards c low 1 l h'))

@@ -1,7 +1,7 @@
 -- The walk that stops the flows which meet their demands, one cell further.
 use Prim.Native.Nat.{ℕ, ◌+◌, ◌*◌, ◌≤◌, ◌<◌}
 use mathlib.Core.Path.{◌≡◌, refl, sym, ap, ◌∙◌}
-use mathlib.Core.Bool.{Bool, false}
+use mathlib.Core.Bool.{false}
 use mathlib.Core.List.{List}
 use mathlib.Core.Logic.{◌⊎◌, inl, inr}
 use native.Mathlib.Omega.{arith}
@@ -11,10 +11,12 @@ use lib.ListN.{length, set}
 use lib.Seq.{get_or-set_other}
 use Rattle.laws.specs.Lists.{cells}
 use Rattle.laws.proofs.Search.{le_or_lt, eq_or_not}
-use Rattle.planner.specs.Tables.{Bounded, Swept}
-use Rattle.planner.specs.Engine.{met_at, met_rate, met_weight, met_stage, Lightest, Light}
-use Rattle.planner.specs.declared.lowest.Level.{Level}
+use Rattle.planner.specs.Tables.{Bounded}
+use Rattle.planner.specs.Engine.{met_at, MetTo, Lightest, Light}
+use Rattle.planner.specs.declared.flows.Flows.{Flows}
+use Rattle.planner.specs.declared.level.Level.{Level}
 use Rattle.planner.specs.declared.stop.Met.{Met}
+use Rattle.planner.specs.declared.tables.Tables.{Tables}
 use Rattle.planner.proofs.Walks.{swept_none, swept_past}
 
 pub light_next : (i : ℕ) (old new : Met) (demands stages next : List ℕ) (y : ℕ) → Light i old.least demands stages
@@ -51,12 +53,9 @@ module _ (base high parts heaviest least : ℕ) (demands weights stages : List �
       go (inr n) = rw (ne_eqb (cells stages c) 20 n)
 
 -- Where no flow meets its demand the walk changes nothing.
-pub swept_unmet : (cards : Bool) (base : ℕ) (level : Level) (demands weights stages left parts : List ℕ)
-    → ((c : ℕ) → c < 64 → met_at base level.high level.parts demands weights stages c ≡ false)
-    → length stages ≡ 64 → length left ≡ 20 → length parts ≡ 20
-    → Swept cards 64 (met_stage base level demands weights stages) (met_rate base level demands weights stages)
-    (met_weight base level demands weights stages) stages stages left left parts parts
-swept_unmet cards base level demands weights stages left parts none long_s long_l long_p =
-    swept_past cards (met_stage base level demands weights stages) (met_rate base level demands weights stages)
-    (met_weight base level demands weights stages) stages stages left left parts parts 0 64 (omega arith) (omega arith)
-    (λ c g h. rw (none c h) (refl, refl, refl)) (swept_none cards _ _ _ stages left parts long_s long_l long_p)
+pub swept_unmet : (f : Flows) (base : ℕ) (level : Level) (t : Tables)
+    → ((c : ℕ) → c < 64 → met_at base level.high level.parts f.demands.now f.weights.now t.stages c ≡ false)
+    → length t.stages ≡ 64 → length t.left ≡ 20 → length t.parts ≡ 20 → MetTo f base level 64 t t
+swept_unmet f base level t none long_s long_l long_p =
+    swept_past f.cards _ _ _ t t 0 64 (omega arith) (omega arith) (λ c g h. rw (none c h) (refl, refl, refl))
+    (swept_none f.cards _ _ _ t long_s long_l long_p)

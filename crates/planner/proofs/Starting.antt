@@ -7,41 +7,17 @@ use mathlib.Core.Logic.{◌⊎◌, inl, inr}
 use native.Mathlib.Omega.{arith}
 use native.Mathlib.Nat.{eq-zero-or-pos}
 use lib.Dec.{eqb, ltb}
-use lib.ListN.{length, set, replicate, length-replicate, get_or-replicate}
-use borrow.Author.Tests.{lt-ltb, le-ltb}
+use lib.ListN.{length, replicate, length-replicate, get_or-replicate}
+use borrow.Author.Tests.{lt-ltb}
 use Rattle.laws.specs.Lists.{cells}
 use Rattle.laws.proofs.Lists.{cells-list}
 use Rattle.laws.proofs.Search.{le_or_lt, true_not_false}
 use Rattle.fairness.specs.Total.{on, total}
 use Rattle.fairness.proofs.Sums.{on_at_most, total-le, total_same, total_next, total_up}
 use Rattle.planner.specs.Limits.{through, problem}
-use Rattle.planner.specs.Tables.{Holds, Lowered, Halted, Shared, Added}
-use Rattle.planner.specs.Engine.{rising_at, start_stage, first_stage, first_weight, start_weight, Unheld}
+use Rattle.planner.specs.Tables.{Holds, Lowered, Shared, Added}
+use Rattle.planner.specs.Engine.{rising_at, start_stage, start_weight, Unheld}
 use Rattle.planner.proofs.Stages.{start_stages, limit_small}
-use Rattle.planner.proofs.Walks.{lowered_none}
-
--- One flow: it waits, it rises, or it asks for nothing.
-module _ {cards : Bool} {c : ℕ} (demand minimum weight : ℕ) {stages left parts : List ℕ} where
-  pub begun_waiting : {left' : List ℕ} → 0 < minimum → Lowered cards c minimum left left' → length parts ≡ 20
-      → Halted cards c (first_stage demand minimum) minimum (first_weight demand minimum weight) stages (set stages c 22) left left' parts parts
-  begun_waiting low taken long =
-      rw (lt-ltb 0 minimum low) (record { marked = refl; taken = taken; freed = lowered_none cards c 0 parts long refl })
-
-  pub begun_rising : {parts' : List ℕ} → minimum ≤ 0 → 0 < demand → length left ≡ 20 → Lowered cards c weight parts' parts
-      → Halted cards c (first_stage demand minimum) minimum (first_weight demand minimum weight) stages (set stages c 20) left left parts' parts
-  begun_rising none asks long given =
-      rw (le-ltb 0 minimum none, lt-ltb 0 demand asks)
-      (record { marked = refl; taken = lowered_none cards c minimum left long (omega arith); freed = given })
-
-  pub begun_silent : minimum ≤ 0 → demand ≤ 0 → length left ≡ 20 → length parts ≡ 20
-      → Halted cards c (first_stage demand minimum) minimum (first_weight demand minimum weight) stages (set stages c 21) left left parts parts
-  begun_silent none silent long_l long_p =
-      rw (le-ltb 0 minimum none, le-ltb 0 demand silent)
-      (record {
-        marked = refl;
-        taken = lowered_none cards c minimum left long_l (omega arith);
-        freed = lowered_none cards c 0 parts long_p refl;
-      })
 
 -- What rises through the limits, from nothing.
 pub zeros_long : {parts : List ℕ} → parts ≡ replicate 20 0 → length parts ≡ 20

@@ -1,12 +1,12 @@
 -- The engine between two turns, and what a turn does to it: it is always a round of the filling, and there is less to be done.
-use Prim.Native.Nat.{ℕ, ◌-◌, ◌*◌, ◌≤◌, ◌<◌}
+use Prim.Native.Nat.{ℕ, ◌*◌, ◌≤◌, ◌<◌}
 use mathlib.Core.Path.{◌≡◌, refl, sym, ap, ◌∙◌, subst}
 use mathlib.Core.Bool.{Bool, true, false, cond}
 use mathlib.Core.List.{List}
 use mathlib.Core.Logic.{◌⊎◌, inl, inr, ◌≢◌}
 use native.Mathlib.Omega.{arith}
 use native.Mathlib.Nat.{mul-le-mul_right, le_trans, mul-le-mul}
-use borrow.Author.Tests.{eq-eqb, ne_eqb, lt-ltb, le-ltb}
+use borrow.Author.Tests.{eq-eqb, ne_eqb}
 use lib.Dec.{eqb}
 use lib.ListN.{length, length-set}
 use Rattle.laws.specs.Lists.{cells, list}
@@ -14,26 +14,31 @@ use Rattle.laws.proofs.Lists.{cells-list, list_same}
 use Rattle.laws.proofs.Search.{le_or_lt, eq_or_not, true_or_false}
 use Rattle.fairness.specs.Total.{on}
 use Rattle.fairness.specs.Problem.{Problem, across}
-use Rattle.fairness.specs.Filling.{State, Next, nothing, fills, reaches, lowest, limit_next, flow_next, next, meets, some, stop_met, shut, free, happen, round, work}
+use Rattle.fairness.specs.Filling.{State, Next, lowest, limit_next, flow_next, next, meets, some, stop_met, shut, free, happen, round, work}
 use Rattle.fairness.specs.Round.{Between}
 use Rattle.fairness.proofs.Sums.{total_same, total-zero}
 use Rattle.fairness.proofs.Some.{none_of_some, some_alike}
 use Rattle.fairness.proofs.Lowest.{lowest_none}
-use Rattle.fairness.proofs.Filling.{fixed_fits, fills_next, reaches_next, never_nothing, round_further}
+use Rattle.fairness.proofs.Filling.{fixed_fits, fills_next, reaches_next, round_further}
 use Rattle.planner.specs.Sizes.{most_asked}
-use Rattle.planner.specs.Limits.{limits_of, through, problem}
-use Rattle.planner.specs.Tables.{Roomy, RoomyBy, Taken, Swept, Holds}
-use Rattle.planner.specs.Engine.{state_of, met_at, met_rate, met_weight, met_stage, halt_rate, halt_weight, halted_stage}
-use Rattle.planner.specs.Engine.{Engaged, Kept, Light, Modest, Shut, Freed, Happened, next_of, event_of, next_event, rising_at, waiting_at}
-use Rattle.planner.specs.declared.lowest.Level.{Level}
-use Rattle.planner.specs.declared.progress.Progress.{Progress}
+use Rattle.planner.specs.Limits.{limits_of, through}
+use Rattle.planner.specs.Tables.{Roomy, RoomyBy, Taken, Holds}
+use Rattle.planner.specs.Engine.{sharing, state_of, state_at, met_at, met_rate, met_weight, halt_rate, halted_stage}
+use Rattle.planner.specs.Engine.{Engaged, Kept, Light, Modest, MetRoom, MetTo, ShutReady, Shut, Freed, FillsReady, ReachesReady, Happened}
+use Rattle.planner.specs.Engine.{next_of, event_of, next_event, rising_at, waiting_at}
+use Rattle.planner.specs.declared.filling.Filling.{Filling}
+use Rattle.planner.specs.declared.flows.Flows.{Flows}
+use Rattle.planner.specs.declared.level.Event.{Event}
+use Rattle.planner.specs.declared.level.Event.TheVariants as event
+use Rattle.planner.specs.declared.level.Level.{Level}
 use Rattle.planner.proofs.Walks.{marked_all}
 use Rattle.planner.proofs.Stages.{met_stages, shut_stages, done_met, done_shut, done_free, limit_small}
 use Rattle.planner.proofs.State.{met_same, state_met, state_met_none, waiting_cell, rising_cell}
 use Rattle.planner.proofs.Events.{state_shut, state_free}
 use Rattle.planner.proofs.Kept.{kept_met, met_fits, kept_shut, shut_fits, kept_free}
 use Rattle.planner.proofs.NextLevel.{limits_same, flows_same}
-use Rattle.planner.proofs.Bounds.{base_small, left_small, parts_small, met_covered, shut_covered, weight_small, minimum_small}
+use Rattle.planner.proofs.LastTurn.{limits_now, levels_listed}
+use Rattle.planner.proofs.Bounds.{base_small, met_covered, shut_covered, weight_small, minimum_small}
 
 taken_alike : {cards : Bool} {x y : ℕ → ℕ} {old new : List ℕ} → ((c : ℕ) → c < 64 → x c ≡ y c) → Taken cards 64 x old new
     → Taken cards 64 y old new
@@ -77,9 +82,6 @@ before_halt l low true old new above other q = go (eq_or_not old 20) (eq_or_not 
         let h : 23 ≡ new = rw (ne_eqb old 20 a, eq-eqb old 22 d) at q in absurd (other (sym h))
     go (inr a) (inr d) = rw (ne_eqb old 20 a, ne_eqb old 22 d) at q
 
-nothing_at : (at : ℕ) → 84 ≤ at → event_of at ≡ nothing
-nothing_at at h = rw (le-ltb at 20 (omega arith), le-ltb at 84 h)
-
 waits_of : (g w : ℕ) → 0 < on (eqb g 22) w → g ≡ 22
 waits_of g w h = go (eq_or_not g 22)
   where
@@ -88,43 +90,69 @@ waits_of g w h = go (eq_or_not g 22)
     go (inr n) = let none : 0 < 0 = rw (ne_eqb g 22 n) at h in absurd (omega arith)
 
 -- The search finds what happens next.
-module _ {cards : Bool} {capacities demands minima weights : List ℕ} {held : Bool} {at : Progress} {stages levels left parts : List ℕ}
-    (now : Engaged cards capacities demands minima weights held at stages levels left parts) where
-  abbrev sharing : Problem
-  sharing = problem cards capacities demands minima weights
+module _ {f : Flows} {capacities : List ℕ} {at : Filling} (now : Engaged f capacities at) where
+  abbrev own : Problem
+  own = sharing f capacities
 
   abbrev state : State
-  state = state_of sharing at.base stages levels
+  state = state_at own at
 
-  pub next_is : next_event cards held at.base minima weights stages left parts ≡ next sharing state
+  pub next_is : next_event f at ≡ next own state
   unfolding next
-  next_is = go held refl
+  next_is = go at.held refl
     where
-      go : (h : Bool) → held ≡ h → next_event cards h at.base minima weights stages left parts ≡ next sharing state
+      go : (h : Bool) → at.held ≡ h → next_event f (record at { held = h }) ≡ next own state
       go true e =
-          flows_same sharing at.base stages levels _ ∙ ap (lowest 64 (flow_next state)) (limits_same sharing state left parts now.kept)
+          flows_same own at.base at.tables.stages at.levels _
+          ∙ ap (lowest 64 (flow_next state)) (limits_same own state at.tables.left at.tables.parts now.kept)
       go false e =
-          limits_same sharing state left parts now.kept
+          limits_same own state at.tables.left at.tables.parts now.kept
           ∙ sym (lowest_none 64 (flow_next state) _ (λ c hc.
-          waiting_cell sharing at.base stages levels c hc ∙ none c (now.unheld e c hc)))
+          waiting_cell own at.base at.tables.stages at.levels c hc ∙ none c (now.unheld e c hc)))
         where
-          none : (c : ℕ) → cells stages c ≢ 22 → waiting_at sharing stages c ≡ 0
-          none c n = rw (ne_eqb (cells stages c) 22 n)
+          none : (c : ℕ) → cells at.tables.stages c ≢ 22 → waiting_at own at.tables.stages c ≡ 0
+          none c n = rw (ne_eqb (cells at.tables.stages c) 22 n)
 
 -- A turn: what holds before it, and the level that the search found.
-pub record Turn (cards : Bool) (capacities demands minima weights : List ℕ) (heaviest : ℕ) (held : Bool) (at : Progress)
-    (stages levels left parts : List ℕ) (e : Level) : Type 0 where
-  pub modest : Modest (problem cards capacities demands minima weights) heaviest
-  pub now : Engaged cards capacities demands minima weights held at stages levels left parts
-  pub is : next_of e ≡ next (problem cards capacities demands minima weights)
-      (state_of (problem cards capacities demands minima weights) at.base stages levels)
+pub record Turn (f : Flows) (capacities : List ℕ) (at : Filling) (e : Level) : Type 0 where
+  pub modest : Modest (sharing f capacities) f.heaviest
+  pub now : Engaged f capacities at
+  pub is : next_of e ≡ next (sharing f capacities) (state_at (sharing f capacities) at)
   pub pos : 0 < e.parts
 
-module _ {cards : Bool} {capacities demands minima weights : List ℕ} {heaviest : ℕ} {held : Bool} {at : Progress}
-    {stages levels left parts : List ℕ} {e : Level}
-    (turn : Turn cards capacities demands minima weights heaviest held at stages levels left parts e) where
+-- What holds after a turn that has got further than a filling.
+abbrev pub Onward : Flows → List ℕ → Filling → Filling → Type 0
+Onward f capacities old new =
+    Engaged f capacities new
+    × (work (sharing f capacities) (state_at (sharing f capacities) new) < work (sharing f capacities) (state_at (sharing f capacities) old))
+
+module _ {f : Flows} {capacities : List ℕ} {at : Filling} {e : Level} (turn : Turn f capacities at e) where
+  abbrev cards : Bool
+  cards = f.cards
+
+  abbrev demands : List ℕ
+  demands = f.demands.now
+
+  abbrev minima : List ℕ
+  minima = f.minima.now
+
+  abbrev weights : List ℕ
+  weights = f.weights.now
+
+  abbrev stages : List ℕ
+  stages = at.tables.stages
+
+  abbrev levels : List ℕ
+  levels = at.levels
+
+  abbrev left : List ℕ
+  left = at.tables.left
+
+  abbrev parts : List ℕ
+  parts = at.tables.parts
+
   abbrev P : Problem
-  P = problem cards capacities demands minima weights
+  P = sharing f capacities
 
   abbrev b : ℕ
   b = at.base
@@ -132,10 +160,10 @@ module _ {cards : Bool} {capacities demands minima weights : List ℕ} {heaviest
   abbrev s : State
   s = state_of P b stages levels
 
-  abbrev modest : Modest P heaviest
+  abbrev modest : Modest P f.heaviest
   modest = turn.modest
 
-  abbrev now : Engaged cards capacities demands minima weights held at stages levels left parts
+  abbrev now : Engaged f capacities at
   now = turn.now
 
   abbrev is : next_of e ≡ next P s
@@ -143,10 +171,6 @@ module _ {cards : Bool} {capacities demands minima weights : List ℕ} {heaviest
 
   abbrev pos : 0 < e.parts
   pos = turn.pos
-
-  -- the base stands, with another least demand
-  abbrev after : ℕ → Progress
-  after least = record { base = b; least = least }
 
   further : Between P (round P s (next_of e)) × (work P (round P s (next_of e)) < work P s)
   further =
@@ -169,8 +193,8 @@ module _ {cards : Bool} {capacities demands minima weights : List ℕ} {heaviest
   after_met : some 64 (meets P s (next_of e)) ≡ true → Between P (stop_met P s (next_of e))
   after_met t = subst (λ (x : State). Between P x) (round_met P s (next_of e) t) further.0
 
-  pub room_met : Roomy cards (met_rate b e demands weights stages) left
-  room_met =
+  room_met_left : Roomy cards (met_rate b e demands weights stages) left
+  room_met_left =
       record {
         long = now.long.2;
         each = λ l h. rw (total_same 64 (through l) _ _ same_rate) (go l h (true_or_false (some 64 (meets P s (next_of e)))));
@@ -184,7 +208,7 @@ module _ {cards : Bool} {capacities demands minima weights : List ℕ} {heaviest
       go l h (inr f) =
           omega (arith, total-zero 64 (through l) _ (λ c hc m. ap (λ (t : Bool). on t (P.demand c * b)) (none_of_some 64 _ f c hc)))
 
-  pub room_met_parts : Roomy cards (met_weight b e demands weights stages) parts
+  room_met_parts : Roomy cards (met_weight b e demands weights stages) parts
   room_met_parts =
       record {
         long = now.long.3;
@@ -193,17 +217,25 @@ module _ {cards : Bool} {capacities demands minima weights : List ℕ} {heaviest
             (met_covered cards capacities demands minima weights b stages levels (next_of e) now.kept l h);
       }
 
+  pub room_met : MetRoom f b e at.tables
+  room_met = (room_met_left, room_met_parts)
+
   -- After the walk that stops them.
-  module _ (least' : ℕ) (stages' left' parts' : List ℕ) (lighter : Light 64 least' demands stages')
-      (swept :
-      Swept cards 64 (met_stage b e demands weights stages) (met_rate b e demands weights stages)
-      (met_weight b e demands weights stages) stages stages' left left' parts parts') where
+  module _ (new : Filling) (lighter : Light 64 new.least demands new.tables.stages) (swept : MetTo f b e 64 at.tables new.tables)
+      (as_it_was : new ≡ record at { least = new.least; tables = new.tables }) where
+    abbrev stages' : List ℕ
+    stages' = new.tables.stages
+
+    -- the base and the levels stand
+    abbrev after : Filling
+    after = record at { least = new.least; tables = new.tables }
+
     stages_met : stages' ≡ met_stages (meets P s (next_of e)) stages
     stages_met =
         marked_all _ stages stages' swept.marked
         ∙ list_same 64 _ _ (λ c hc. ap (λ (t : Bool). cond t 21 (cells stages c)) (same c hc))
 
-    kept_after : Kept P (stop_met P s (next_of e)) left' parts'
+    kept_after : Kept P (stop_met P s (next_of e)) new.tables.left new.tables.parts
     kept_after =
         kept_met cards capacities demands minima weights b stages levels (next_of e) now.kept
         (taken_alike same_rate swept.taken) (taken_alike same_weight swept.freed)
@@ -212,7 +244,7 @@ module _ {cards : Bool} {capacities demands minima weights : List ℕ} {heaviest
     state_after = state_met cards capacities demands minima weights b stages levels (next_of e) stages_met
 
     engaged_after : Between P (state_of P b stages' levels)
-        → Engaged cards capacities demands minima weights held (after least') stages' levels left' parts'
+        → Engaged f capacities after
     engaged_after between =
         record {
           between = between;
@@ -228,37 +260,37 @@ module _ {cards : Bool} {capacities demands minima weights : List ℕ} {heaviest
         }
 
     -- Some flow has stopped.
-    pub met_turn : some 64 (met_at b e.high e.parts demands weights stages) ≡ true
-        → Engaged cards capacities demands minima weights held (after least') stages' levels left' parts'
-        × (work P (state_of P b stages' levels) < work P s)
+    pub met_turn : some 64 (met_at b e.high e.parts demands weights stages) ≡ true → Onward f capacities at new
     met_turn t =
-        let yes = sym some_same ∙ t in (
+        let yes = sym some_same ∙ t in
+        subst (λ (x : Filling). Onward f capacities at x) (sym as_it_was) (
           engaged_after (rw state_after (after_met yes)),
           rw state_after (subst (λ (x : State). work P x < work P s) (round_met P s (next_of e) yes) further.1),
         )
 
     -- None has: the level stands, and what happens there is yet to come.
-    pub unmet_turn : some 64 (met_at b e.high e.parts demands weights stages) ≡ false
-        → Engaged cards capacities demands minima weights held (after least') stages' levels left' parts' × (stages' ≡ stages)
-    unmet_turn f =
-        let same = stages_met ∙ state_met_none cards capacities demands minima weights b stages levels (next_of e) (sym some_same ∙ f) now.long.0 in
+    pub unmet_turn : some 64 (met_at b e.high e.parts demands weights stages) ≡ false → Engaged f capacities after × (stages' ≡ stages)
+    unmet_turn unmet =
+        let same = stages_met ∙ state_met_none cards capacities demands minima weights b stages levels (next_of e) (sym some_same ∙ unmet) now.long.0 in
         (engaged_after (rw same now.between), same)
 
     -- The turn goes on from there, and still no flow meets its demand.
     pub unmet_on : some 64 (met_at b e.high e.parts demands weights stages) ≡ false
-        → Turn cards capacities demands minima weights heaviest held (after least') stages' levels left' parts' e
-        × (some 64 (meets P (state_of P b stages' levels) (next_of e)) ≡ false) × (stages' ≡ stages)
-    unmet_on f =
-        let still = (unmet_turn f).1 in (
+        → Turn f capacities new e × (some 64 (meets P (state_at P new) (next_of e)) ≡ false) × (state_at P new ≡ s)
+    unmet_on unmet =
+        let still = (unmet_turn unmet).1 in
+        subst
+        (λ (x : Filling). Turn f capacities x e × (some 64 (meets P (state_at P x) (next_of e)) ≡ false) × (state_at P x ≡ s))
+        (sym as_it_was) (
           record {
             modest = modest;
-            now = (unmet_turn f).0;
+            now = (unmet_turn unmet).0;
             is = subst (λ (st : List ℕ). next_of e ≡ next P (state_of P b st levels)) (sym still) is;
             pos = pos;
           },
           subst (λ (st : List ℕ). some 64 (meets P (state_of P b st levels) (next_of e)) ≡ false) (sym still)
-              (sym some_same ∙ f),
-          still,
+              (sym some_same ∙ unmet),
+          ap (λ (st : List ℕ). state_of P b st levels) still,
         )
 
   -- What happens at the level, if no flow meets its demand there.
@@ -266,24 +298,33 @@ module _ {cards : Bool} {capacities demands minima weights : List ℕ} {heaviest
     abbrev Further : State → Type 0
     Further t = Between P t × (work P t < work P s)
 
-    further_by : (t : State) → happen P s (next_of e) (event_of e.at) ≡ t → Further t
-    further_by t q =
-        subst Further (round_unmet P s (next_of e) none ∙ q) further
+    -- there are parts, so that the event takes place
+    event_is : (next_of e).event ≡ event_of e.event
+    event_is = rw (ne_eqb e.parts 0 (λ z. omega (arith, pos)))
+
+    further_by : (x : Event) → e.event ≡ x → (t : State) → happen P s (next_of e) (event_of x) ≡ t → Further t
+    further_by x at_x t q =
+        subst Further
+        (round_unmet P s (next_of e) none ∙ ap (happen P s (next_of e)) (event_is ∙ ap event_of at_x) ∙ q) further
+
+    -- what the filling says of the event that takes place
+    next_event_is : (x : Event) → e.event ≡ x → (next P s).event ≡ event_of x
+    next_event_is x at_x = sym (ap (λ (n : Next). n.event) is) ∙ event_is ∙ ap event_of at_x
 
     -- A limit fills.
-    module _ (limit : e.at < 20) where
-      event : event_of e.at ≡ fills e.at
-      event = rw (lt-ltb e.at 20 limit)
+    module _ (limit : ℕ) (at_limit : e.event ≡ event.Fills limit) where
+      found : (limit < P.limits) × (next P s ≡ limit_next P s limit) × (0 < across P limit (cells s.rising))
+      found = fills_next P modest.sound s now.between limit (next_event_is (event.Fills limit) at_limit)
 
-      found : (e.at < P.limits) × (next P s ≡ limit_next P s e.at) × (0 < across P e.at (cells s.rising))
-      found = fills_next P modest.sound s now.between e.at (sym (ap (λ (x : Next). x.event) is) ∙ event)
+      small : limit < 20
+      small = limit_small cards limit found.0
 
-      shut_further : Further (shut P s (next_of e) e.at)
+      shut_further : Further (shut P s (next_of e) limit)
       unfolding happen
-      shut_further = further_by _ (ap (happen P s (next_of e)) event)
+      shut_further = further_by (event.Fills limit) at_limit _ refl
 
-      rises : 0 < across P e.at (rising_at P stages)
-      rises = rw (total_same 64 (through e.at) _ _ (λ c hc. rising_cell P b stages levels c hc)) at found.2
+      rises : 0 < across P limit (rising_at P stages)
+      rises = rw (total_same 64 (through limit) _ _ (λ c hc. rising_cell P b stages levels c hc)) at found.2
 
       abbrev left_by : List ℕ
       left_by = list 20 (λ i. cells left i * e.parts)
@@ -291,25 +332,29 @@ module _ {cards : Bool} {capacities demands minima weights : List ℕ} {heaviest
       scaled : (i : ℕ) → i < limits_of cards → cells left_by i ≡ cells left i * e.parts
       scaled i h = cells-list 20 _ i (limit_small cards i h)
 
-      pub room_shut : RoomyBy cards e.parts (halt_rate e.at e.high weights stages) left
+      room_shut : RoomyBy cards e.parts (halt_rate limit e.high weights stages) left
       room_shut =
           record {
             long = now.long.2;
             each = λ l h.
                 rw (scaled l h) at
-                (shut_fits cards capacities demands minima weights b stages levels (next_of e) e.at left_by now.kept scaled
-                (λ i hi. rw (base_shut P b stages levels (next_of e) e.at) at (fixed_fits P modest.sound _ shut_further.0 i hi)) l h);
+                (shut_fits cards capacities demands minima weights b stages levels (next_of e) limit left_by now.kept scaled
+                (λ i hi. rw (base_shut P b stages levels (next_of e) limit) at (fixed_fits P modest.sound _ shut_further.0 i hi)) l h);
           }
 
-      pub room_shut_parts : Roomy cards (halt_weight e.at weights stages) parts
-      room_shut_parts =
+      pub shut_ready : ShutReady f limit e at
+      shut_ready =
           record {
-            long = now.long.3;
-            each = λ l h. shut_covered cards capacities demands minima weights b stages levels e.at now.kept l h;
+            listed = found.0;
+            levels = levels_listed modest now;
+            left = (limits_now modest now).left;
+            room = room_shut;
+            room_parts =
+                record {
+                  long = now.long.3;
+                  each = λ l h. shut_covered cards capacities demands minima weights b stages levels limit now.kept l h;
+                };
           }
-
-      pub limit_listed : e.at < limits_of cards
-      limit_listed = found.0
 
       high_level : e.high ≤ most_asked * b
       high_level =
@@ -317,119 +362,106 @@ module _ {cards : Bool} {capacities demands minima weights : List ℕ} {heaviest
             arith,
             ap (λ (x : Next). x.high) (is ∙ found.1),
             base_of P b stages levels,
-            mul-le-mul_right b (modest.capacities e.at found.0),
-            ap (λ (x : ℕ). P.capacity e.at * x) (base_of P b stages levels),
+            mul-le-mul_right b (modest.capacities limit found.0),
+            ap (λ (x : ℕ). P.capacity limit * x) (base_of P b stages levels),
           )
 
-      module _ (stages' levels' left' parts' : List ℕ)
-          (done : Shut cards e.at e.high e.parts weights stages stages' levels levels' left left' parts parts') where
-        stages_shut : stages' ≡ shut_stages (through e.at) e.at stages
-        stages_shut = marked_all _ stages stages' done.swept.marked
+      module _ (new : Filling) (done : Shut f limit e at new) where
+        stages_shut : new.tables.stages ≡ shut_stages (through limit) limit stages
+        stages_shut = marked_all _ stages new.tables.stages done.swept.marked
 
-        state_is_shut : state_of P (b * e.parts) stages' levels' ≡ shut P s (next_of e) e.at
+        state_is_shut : state_at P new ≡ shut P s (next_of e) limit
         state_is_shut =
-            state_shut cards capacities demands minima weights b stages levels levels' (next_of e) e.at now.done found.0 rises
-            done.levels_grown done.level stages_shut
+            rw done.base
+            (state_shut cards capacities demands minima weights b stages levels new.levels (next_of e) limit now.done found.0 rises
+            done.levels_grown done.level stages_shut)
 
-        stage_before : (c : ℕ) → c < 64 → (g : ℕ) → 19 < g → g ≢ 23 → cells stages' c ≡ g → cells stages c ≡ g
+        stage_before : (c : ℕ) → c < 64 → (g : ℕ) → 19 < g → g ≢ 23 → cells new.tables.stages c ≡ g → cells stages c ≡ g
         stage_before c hc g above other q =
-            before_halt e.at limit (through e.at c) (cells stages c) g above other (sym (done.swept.marked.before c hc) ∙ q)
+            before_halt limit small (through limit c) (cells stages c) g above other (sym (done.swept.marked.before c hc) ∙ q)
 
-        higher : (i : ℕ) → i < 20 → cells levels' i ≤ most_asked * (b * e.parts)
-        higher i hi = go (eq_or_not i e.at) (le_or_lt (limits_of cards) i)
+        higher : (i : ℕ) → i < 20 → cells new.levels i ≤ most_asked * (b * e.parts)
+        higher i hi = go (eq_or_not i limit) (le_or_lt (limits_of cards) i)
           where
             grown : most_asked * b ≤ most_asked * (b * e.parts)
             grown = omega (arith, mul-le-mul_right b pos)
 
-            go : (i ≡ e.at) ⊎ (i ≡ e.at → ⊥) → (limits_of cards ≤ i) ⊎ (i < limits_of cards) → cells levels' i ≤ most_asked * (b * e.parts)
+            go : (i ≡ limit) ⊎ (i ≡ limit → ⊥) → (limits_of cards ≤ i) ⊎ (i < limits_of cards) → cells new.levels i ≤ most_asked * (b * e.parts)
             go (inl q) t = rw (q, done.level) (le_trans high_level grown)
             go (inr n) (inl past) = rw (done.levels_kept i past) (le_trans (now.high i hi) grown)
             go (inr n) (inr l) = rw (done.levels_grown i l n) (omega (arith, mul-le-mul_right e.parts (now.high i hi)))
 
-        pub shut_turn : Engaged cards capacities demands minima weights held (record { base = b * e.parts; least = at.least }) stages' levels' left' parts'
-            × (work P (state_of P (b * e.parts) stages' levels') < work P s)
+        pub shut_turn : Onward f capacities at new
         shut_turn = (
           record {
             between = rw state_is_shut shut_further.0;
             kept =
                 rw state_is_shut
-                (kept_shut cards capacities demands minima weights b stages levels (next_of e) e.at done.grown now.kept
+                (kept_shut cards capacities demands minima weights b stages levels (next_of e) limit done.grown now.kept
                 done.left_grown.each done.swept.taken done.swept.freed);
-            done = rw stages_shut (done_shut P stages now.done e.at found.0 limit);
+            done = rw stages_shut (done_shut P stages now.done limit found.0 small);
             light =
                 record {
-                  small = now.light.small;
-                  each = λ c hc q. now.light.each c hc (stage_before c hc 20 (omega arith) (λ n. omega arith) q);
+                  small = rw (done.kept.1) now.light.small;
+                  each = λ c hc q.
+                      rw (done.kept.1) (now.light.each c hc (stage_before c hc 20 (omega arith) (λ n. omega arith) q));
                 };
-            unheld = λ n c hc q. now.unheld n c hc (stage_before c hc 22 (omega arith) (λ n. omega arith) q);
-            high = higher;
+            unheld = λ n c hc q.
+                now.unheld (sym done.kept.0 ∙ n) c hc (stage_before c hc 22 (omega arith) (λ n. omega arith) q);
+            high = rw done.base higher;
             long = (done.swept.marked.long, done.long, done.swept.taken.long, done.swept.freed.long);
           },
           rw state_is_shut shut_further.1,
         )
 
     -- A waiting flow's minimum is reached.
-    module _ (flows : 20 ≤ e.at) where
-      abbrev flow : ℕ
-      flow = e.at - 20
-
-      pub flow_listed : e.at < 84
-      flow_listed = go (le_or_lt 84 e.at)
-        where
-          go : (84 ≤ e.at) ⊎ (e.at < 84) → e.at < 84
-          go (inl past) =
-              absurd (never_nothing P modest.sound s now.between (subst (λ (x : Next). 0 < x.parts) is pos)
-              (sym (ap (λ (x : Next). x.event) is) ∙ nothing_at e.at past))
-          go (inr l) = l
-
-      free_event : event_of e.at ≡ reaches flow
-      free_event = rw (le-ltb e.at 20 flows, lt-ltb e.at 84 flow_listed)
-
+    module _ (flow : ℕ) (at_flow : e.event ≡ event.Reaches flow) where
       reached : (flow < 64) × (next P s ≡ flow_next s flow) × (0 < cells s.waiting flow)
-      reached = reaches_next P modest.sound s now.between flow (sym (ap (λ (x : Next). x.event) is) ∙ free_event)
+      reached = reaches_next P modest.sound s now.between flow (next_event_is (event.Reaches flow) at_flow)
 
       waits : cells stages flow ≡ 22
       waits = waits_of (cells stages flow) (cells weights flow) (rw (waiting_cell P b stages levels flow reached.0) at reached.2)
 
       free_further : Further (free P s flow)
       unfolding happen
-      free_further = further_by _ (ap (happen P s (next_of e)) free_event)
+      free_further = further_by (event.Reaches flow) at_flow _ refl
 
-      pub holds_left : Holds cards flow (cells minima flow * b) left
+      holds_left : Holds cards flow (cells minima flow * b) left
       holds_left =
           record {
             long = now.long.2;
             each = λ l h q.
                 omega (
                   arith,
-                  (left_small cards capacities demands minima weights b stages levels modest now.between now.kept).each l h,
+                  (limits_now modest now).left.each l h,
                   mul-le-mul
                       (minimum_small cards capacities demands minima weights modest flow reached.0)
                       (base_small cards capacities demands minima weights b stages levels modest now.between),
                 );
           }
 
-      pub holds_parts : Holds cards flow (cells weights flow) parts
+      holds_parts : Holds cards flow (cells weights flow) parts
       holds_parts =
           record {
             long = now.long.3;
             each = λ l h q.
                 omega (
                   arith,
-                  (parts_small cards capacities demands minima weights b stages levels modest now.kept).each l h,
+                  (limits_now modest now).parts.each l h,
                   weight_small cards capacities demands minima weights modest flow reached.0,
                 );
           }
 
-      module _ (stages' left' parts' : List ℕ)
-          (done : Freed cards flow (cells minima flow * b) (cells weights flow) stages stages' left left' parts parts') where
-        state_is_free : state_of P b stages' levels ≡ free P s flow
+      pub free_ready : (flow < 64) × Holds cards flow (cells minima flow * b) left × Holds cards flow (cells weights flow) parts
+      free_ready = (reached.0, holds_left, holds_parts)
+
+      module _ (new : Filling) (done : Freed f flow at new) where
+        state_is_free : state_at P new ≡ free P s flow
         state_is_free =
-            rw done.marked
+            rw (done.kept.1, done.kept.2, done.marked)
             (state_free cards capacities demands minima weights b stages levels flow reached.0 waits now.long.0)
 
-        pub free_turn : Engaged cards capacities demands minima weights held (after 0) stages' levels left' parts'
-            × (work P (state_of P b stages' levels) < work P s)
+        pub free_turn : Onward f capacities at new
         free_turn = (
           record {
             between = rw state_is_free free_further.0;
@@ -438,12 +470,13 @@ module _ {cards : Bool} {capacities demands minima weights : List ℕ} {heaviest
                 (kept_free cards capacities demands minima weights b stages levels flow reached.0 waits now.kept
                 (λ i h. sym (done.given.each i h)) (λ i h. sym (done.rises.each i h)));
             done = rw done.marked (done_free P stages now.done flow reached.0 waits now.long.0);
-            light = record { small = omega arith; each = λ c hc q. omega arith };
-            unheld = λ n. absurd (now.unheld n flow reached.0 waits);
-            high = now.high;
+            light =
+                record { small = omega (arith, done.least); each = λ c hc q. omega (arith, done.least) };
+            unheld = λ n. absurd (now.unheld (sym done.kept.0 ∙ n) flow reached.0 waits);
+            high = rw (done.kept.1, done.kept.2) now.high;
             long = (
               ap length done.marked ∙ length-set stages flow 20 ∙ now.long.0,
-              now.long.1,
+              ap length done.kept.2 ∙ now.long.1,
               done.given.long.0,
               done.rises.long.0,
             );
@@ -451,24 +484,13 @@ module _ {cards : Bool} {capacities demands minima weights : List ℕ} {heaviest
           rw state_is_free free_further.1,
         )
 
-    -- Either has happened.
-    module _ (stages' levels' left' parts' : List ℕ) where
-      abbrev Onward : Progress → List ℕ → Type 0
-      Onward x l =
-          Engaged cards capacities demands minima weights held x stages' l left' parts'
-          × (work P (state_of P x.base stages' l) < work P s)
+    -- Either can happen, and has.
+    pub happen_ready : FillsReady f e at × ReachesReady f e at
+    happen_ready = (record { ready = shut_ready }, record { ready = free_ready })
 
-      pub happened_turn : (new : Progress)
-          → Happened cards at e minima weights stages stages' levels levels' left left' parts parts' new → Onward new levels'
-      happened_turn new done = go (le_or_lt 20 e.at)
-        where
-          go : (20 ≤ e.at) ⊎ (e.at < 20) → Onward new levels'
-          go (inr h) =
-              let d = done.fills h in
-              let same : new ≡ record { base = _; least = _ } = λ i. record { base = d.0 i; least = d.1 i } in
-              subst (λ (x : Progress). Onward x levels') (sym same) (shut_turn h _ _ _ _ d.2)
-          go (inl h) =
-              let d = done.reaches h in
-              let same : new ≡ record { base = _; least = _ } = λ i. record { base = d.0 i; least = d.1 i } in
-              subst (λ (x : Progress). Onward x levels') (sym same)
-              (subst (λ (l : List ℕ). Onward (after 0) l) (sym d.2) (free_turn h _ _ _ d.3))
+    pub happened_turn : (new : Filling) → Happened f e at new → Onward f capacities at new
+    happened_turn new done = go e.event refl
+      where
+        go : (x : Event) → e.event ≡ x → Onward f capacities at new
+        go (event.Fills limit) q = shut_turn limit q new (done.fills limit q)
+        go (event.Reaches flow) q = free_turn flow q new (done.reaches flow q)

@@ -1,39 +1,22 @@
 -- Walks over the cells, one cell at a time or past cells that nothing is done to.
-use Prim.Native.Nat.{ℕ, ◌+◌, ◌*◌, ◌≤◌, ◌<◌}
+use Prim.Native.Nat.{ℕ, ◌+◌, ◌-◌, ◌*◌, ◌≤◌, ◌<◌}
 use mathlib.Core.Path.{◌≡◌, refl, sym, ◌∙◌, ap}
 use mathlib.Core.Bool.{Bool, true}
-use mathlib.Core.List.{List}
+use mathlib.Core.List.{List, ◌++◌}
 use mathlib.Core.Logic.{◌⊎◌, inl, inr}
 use native.Mathlib.Omega.{arith}
 use native.Mathlib.Nat.{le_dest}
-use lib.ListN.{length, set, length-set}
-use lib.Seq.{get_or-set_same, get_or-set_other, set-get_or, ext_get_or}
+use lib.ListN.{length, set, take, drop, length-set, length-append, length-drop}
+use lib.Seq.{get_or-set_same, get_or-set_other, ext_get_or}
 use Rattle.laws.specs.Lists.{cells, list}
 use Rattle.laws.proofs.Lists.{cells-list, length-list}
 use Rattle.laws.proofs.Search.{le_or_lt, eq_or_not}
 use Rattle.fairness.specs.Total.{on, total}
-use Rattle.fairness.proofs.Sums.{on_nothing, total_next, total_up, total_past}
-use Rattle.planner.specs.Limits.{limits_of, through}
-use Rattle.planner.specs.Tables.{Covers, Lowered, Halted, Roomy, RoomyBy, Taken, Marked, Swept, Scaled}
-
--- A flow that is given nothing changes no limit, and one that keeps its stage changes nothing.
-pub lowered_none : (cards : Bool) (c x : ℕ) (t : List ℕ) → length t ≡ 20 → x ≡ 0 → Lowered cards c x t t
-lowered_none cards c x t long e =
-    record { long = (long, long); each = λ l h. omega (arith, on_nothing (through l c) x e) }
-
-pub halted_marked : {cards : Bool} {c stage x weight : ℕ} {stages stages' left parts : List ℕ} → stages' ≡ set stages c stage → x ≡ 0
-    → weight ≡ 0 → length left ≡ 20 → length parts ≡ 20 → Halted cards c stage x weight stages stages' left left parts parts
-halted_marked {cards} {c} {stage} {x} {weight} {stages} {stages'} {left} {parts} e ex ew long_l long_p =
-    record {
-      marked = e;
-      taken = lowered_none cards c x left long_l ex;
-      freed = lowered_none cards c weight parts long_p ew;
-    }
-
-pub halted_none : {cards : Bool} {c stage x weight : ℕ} {stages left parts : List ℕ} → stage ≡ cells stages c → x ≡ 0 → weight ≡ 0
-    → length left ≡ 20 → length parts ≡ 20 → Halted cards c stage x weight stages stages left left parts parts
-halted_none {cards} {c} {stage} {x} {weight} {stages} e =
-    halted_marked (sym (set-get_or stages c 0) ∙ ap (set stages c) (sym e))
+use Rattle.fairness.proofs.Sums.{total_next, total_up, total_past}
+use Rattle.planner.specs.Limits.{through}
+use Rattle.std.proofs.lemmas.List.{get_or_append_left, get_or-append_right, get_or-take, get_or-drop, length-take-le}
+use Rattle.planner.specs.Tables.{Covers, Lowered, Halted, Roomy, Scaled, Taken, Marked, Swept}
+use Rattle.planner.specs.declared.tables.Tables.{Tables}
 
 module _ (cards : Bool) (x : ℕ → ℕ) (old new : List ℕ) where
   pub taken_none : length old ≡ 20 → Taken cards 0 x old old
@@ -116,59 +99,55 @@ module _ (rule : ℕ → ℕ) (old new : List ℕ) where
       (λ c h. let low : c < 64 = rw done.long at h in done.before c low ∙ sym (cells-list 64 rule c low))
 
 -- All three tables at once.
-pub swept_none : (cards : Bool) (stage x weight : ℕ → ℕ) (stages left parts : List ℕ) → length stages ≡ 64 → length left ≡ 20
-    → length parts ≡ 20 → Swept cards 0 stage x weight stages stages left left parts parts
-swept_none cards stage x weight stages left parts long_s long_l long_p =
+pub swept_none : (cards : Bool) (stage x weight : ℕ → ℕ) (t : Tables) → length t.stages ≡ 64 → length t.left ≡ 20
+    → length t.parts ≡ 20 → Swept cards 0 stage x weight t t
+swept_none cards stage x weight t long_s long_l long_p =
     record {
-      marked = marked_none stage stages stages long_s;
-      taken = taken_none cards x left left long_l;
-      freed = taken_none cards weight parts parts long_p;
+      marked = marked_none stage t.stages t.stages long_s;
+      taken = taken_none cards x t.left t.left long_l;
+      freed = taken_none cards weight t.parts t.parts long_p;
     }
 
-module _ (cards : Bool) (stage x weight : ℕ → ℕ) (stages stages' left left' parts parts' : List ℕ) where
-  pub swept_next : {stages₁ left₁ parts₁ : List ℕ} (i : ℕ) → i < 64
-      → Swept cards i stage x weight stages stages' left left' parts parts'
-      → Halted cards i (stage i) (x i) (weight i) stages' stages₁ left' left₁ parts' parts₁
-      → Swept cards (i + 1) stage x weight stages stages₁ left left₁ parts parts₁
+module _ (cards : Bool) (stage x weight : ℕ → ℕ) (old new : Tables) where
+  pub swept_next : {next : Tables} (i : ℕ) → i < 64 → Swept cards i stage x weight old new
+      → Halted cards i (stage i) (x i) (weight i) new next → Swept cards (i + 1) stage x weight old next
   swept_next i low so_far step =
       record {
-        marked = rw step.marked (marked_next stage stages stages' i low so_far.marked (stage i) refl);
-        taken = taken_next cards x left left' i so_far.taken _ step.taken;
-        freed = taken_next cards weight parts parts' i so_far.freed _ step.freed;
+        marked = rw step.marked (marked_next stage old.stages new.stages i low so_far.marked (stage i) refl);
+        taken = taken_next cards x old.left new.left i so_far.taken _ step.taken;
+        freed = taken_next cards weight old.parts new.parts i so_far.freed _ step.freed;
       }
 
   -- cells that keep their stage and are given nothing
   pub swept_past : (i j : ℕ) → i ≤ j → j ≤ 64
-      → ((c : ℕ) → i ≤ c → c < j → (stage c ≡ cells stages c) × (x c ≡ 0) × (weight c ≡ 0))
-      → Swept cards i stage x weight stages stages' left left' parts parts'
-      → Swept cards j stage x weight stages stages' left left' parts parts'
+      → ((c : ℕ) → i ≤ c → c < j → (stage c ≡ cells old.stages c) × (x c ≡ 0) × (weight c ≡ 0))
+      → Swept cards i stage x weight old new → Swept cards j stage x weight old new
   swept_past i j h top same so_far =
       record {
-        marked = marked_past stage stages stages' i j h top (λ c g l. (same c g l).0) so_far.marked;
-        taken = taken_past cards x left left' i j h (λ c g l. (same c g l).1) so_far.taken;
-        freed = taken_past cards weight parts parts' i j h (λ c g l. (same c g l).2) so_far.freed;
+        marked = marked_past stage old.stages new.stages i j h top (λ c g l. (same c g l).0) so_far.marked;
+        taken = taken_past cards x old.left new.left i j h (λ c g l. (same c g l).1) so_far.taken;
+        freed = taken_past cards weight old.parts new.parts i j h (λ c g l. (same c g l).2) so_far.freed;
       }
 
--- One more entry of a table of the limits is multiplied.
-pub scaled_none : (k : ℕ) (t : List ℕ) → length t ≡ 20 → Scaled 0 k t t
-scaled_none k t long = record { long = long; each = λ l h. absurd (omega arith); rest = λ l h. refl }
+-- The first i entries of a list have been multiplied by k.
+pub record Multiplied (i k : ℕ) (old new : List ℕ) : Type 0 where
+  pub long : length new ≡ length old
+  pub each : (l : ℕ) → l < i → cells new l ≡ cells old l * k
+  pub rest : (l : ℕ) → i ≤ l → cells new l ≡ cells old l
 
-pub scaled_next : (i k : ℕ) (old new : List ℕ) → i < 20 → Scaled i k old new → Scaled (i + 1) k old (set new i (cells new i * k))
-scaled_next i k old new low so_far =
+-- Of a table of the limits, its front.
+pub scaled_front : (count k : ℕ) (table front : List ℕ) → count ≤ 20 → length table ≡ 20
+    → Multiplied count k (take count table) front → Scaled count k table (front ++ drop count table)
+scaled_front count k table front few long by =
     record {
-      long = length-set new i (cells new i * k) ∙ so_far.long;
-      each = λ l h. go l h (eq_or_not l i);
+      long = simp (length-append, length-drop) (omega (arith, by.long, front_long, long));
+      each = λ l h.
+          get_or_append_left front (drop count table) 0 l (omega (arith, by.long, front_long)) ∙ by.each l h
+          ∙ ap (λ x. x * k) (get_or-take count table l 0 h);
       rest = λ l h.
-          let other : l ≡ i → ⊥ = λ e. omega arith in
-          get_or-set_other new i l (cells new i * k) 0 other ∙ so_far.rest l (omega arith);
+          get_or-append_right front (drop count table) count l 0 (by.long ∙ front_long) h ∙ get_or-drop count table (l - count) 0
+          ∙ ap (cells table) (omega arith);
     }
   where
-    go : (l : ℕ) → l < i + 1 → (l ≡ i) ⊎ (l ≡ i → ⊥) → cells (set new i (cells new i * k)) l ≡ cells old l * k
-    go l h (inl e) =
-        rw e (get_or-set_same new i (cells new i * k) 0 (rw so_far.long low) ∙ ap (λ x. x * k) (so_far.rest i (omega arith)))
-    go l h (inr n) = get_or-set_other new i l (cells new i * k) 0 n ∙ so_far.each l (omega arith)
-
-pub roomy_grown : (cards : Bool) (k : ℕ) (x : ℕ → ℕ) (old new : List ℕ) → RoomyBy cards k x old → Scaled (limits_of cards) k old new
-    → Roomy cards x new
-roomy_grown cards k x old new room grown =
-    record { long = grown.long; each = λ l h. rw (grown.each l h) (room.each l h) }
+    front_long : length (take count table) ≡ count
+    front_long = length-take-le count table (omega arith)

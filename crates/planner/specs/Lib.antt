@@ -2,6 +2,7 @@
 pub mod Sizes
 pub mod Limits
 pub mod Areas
+pub mod Stages
 pub mod Tables
 pub mod Engine
 pub mod Ports

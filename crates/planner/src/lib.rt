@@ -2,13 +2,16 @@
 #![tactic(auto)]
 
 mod fill;
+mod filling;
+mod flows;
 mod happen;
+mod level;
 mod limits;
 mod lowest;
 pub mod plan;
-mod progress;
 mod rates;
 mod shut;
 mod stage;
 mod start;
 mod stop;
+mod tables;

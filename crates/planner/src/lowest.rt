@@ -1,104 +1,77 @@
 // The search for the lowest level at which something happens.
-ghost use Rattle.std.specs.Prelude.{◌≤◌, ◌≡◌, length, eqb};
+ghost use Rattle.std.specs.Prelude.{◌≤◌, ◌<◌, ◌≡◌, eqb};
+ghost use Rattle.laws.specs.Lists.{cells};
 ghost use Rattle.fairness.specs.Total.{on};
-ghost use Rattle.fairness.specs.Filling.{never, lower, lowest};
-ghost use Rattle.planner.specs.Sizes.{most_asked, most_base, most_high, most_parts};
+ghost use Rattle.fairness.specs.Filling.{never, lowest};
+ghost use Rattle.planner.specs.Sizes.{most_base};
 ghost use Rattle.planner.specs.Limits.{limits_of};
-ghost use Rattle.planner.specs.Tables.{Bounded};
-ghost use Rattle.planner.specs.Engine.{Small, next_of, limit_event, flow_event, next_event};
+ghost use Rattle.planner.specs.Engine.{next_of, limit_event, flow_event, next_event, Found, LimitsSmall};
 
-use crate::limits::{limits, wide};
-use crate::progress::Mode;
-use crate::stage::WAITING;
+use crate::filling::Filling;
+use crate::flows::Flows;
+use crate::level::{Event, Level};
+use crate::stage::Kind;
+use crate::tables::Tables;
 
-// A level, `high` over `parts`, and what happens there: a limit's number, or 20 and a flow's cell, or 84 for nothing.
-#[derive(Clone, Copy)]
-pub struct Level {
-    pub high: u64,
-    pub parts: u64,
-    pub at: u64,
-}
+impl Tables {
+    fn lowest_limit(&self, flows: &Flows) -> Level
+        requires { LimitsSmall flows.now.cards self.now }
+        ensures { next_of result ≡ lowest (limits_of flows.now.cards) (limit_event self.now.left self.now.parts) never }
+    {
+        let mut best = Level::never();
+        for limit in 0..flows.limits() {
+            let fills = Level {
+                high: self.left[limit],
+                parts: self.parts[limit],
+                event: Event::Fills(limit),
+            };
+            best = best.lower(fills);
+        }
+        best
+    }
 
-// Two levels are compared by multiplying across. If they are level, the first counts.
-fn lower(a: Level, b: Level) -> Level
-    requires { Small a × Small b }
-    ensures { Small result × (next_of result ≡ lower (next_of a) (next_of b)) }
-{
-    if b.high * a.parts < a.high * b.parts {
-        b
-    } else {
-        a
+    // What a flow counts in the search: its weight if it waits.
+    fn waiting(&self, flows: &Flows, cell: usize) -> u64
+        requires { cell < 64 }
+        ensures { result ≡ on (eqb (cells self.now.stages cell) 22) (cells flows.now.weights.now cell) }
+    {
+        match self.stages[cell].kind() {
+            Kind::Waiting => u64::from(flows.weights[cell]),
+            _ => 0,
+        }
+    }
+
+    // Waiting flows come after the limits.
+    fn lowest_flow(&self, flows: &Flows, base: u64, first: Level) -> Level
+        requires { base ≤ most_base }
+        ensures { next_of result ≡ lowest 64 (flow_event base flows.now.minima.now flows.now.weights.now self.now.stages) (next_of first) }
+    {
+        let mut best = first;
+        for cell in 0..64 {
+            let rises = Level {
+                high: u64::from(flows.minima[cell]) * base,
+                parts: self.waiting(flows, cell),
+                event: Event::Reaches(cell),
+            };
+            best = best.lower(rises);
+        }
+        best
     }
 }
 
-// The first level, 1 over 0, is above all others.
-fn lowest_limit(cards: bool, left: &[u64], parts: &[u64]) -> Level
-    requires left_len { (length left.now ≡ 20) × Bounded (limits_of cards) most_high left.now }
-    requires parts_len { (length parts.now ≡ 20) × Bounded (limits_of cards) most_parts parts.now }
-    ensures { Small result × (next_of result ≡ lowest (limits_of cards) (limit_event left.now parts.now) never) }
-{
-    let mut best = Level {
-        high: 1,
-        parts: 0,
-        at: 84,
-    };
-    for l in 0..limits(cards) {
-        let i = l as usize;
-        let fills = Level {
-            high: left[i],
-            parts: parts[i],
-            at: l,
+impl Filling {
+    // The lowest level of all, if anything can happen. Flows are searched only if some flow had a minimum at the start.
+    pub fn next_level(&self, flows: &Flows) -> Option<Level>
+        requires { (self.now.base ≤ most_base) × LimitsSmall flows.now.cards self.now.tables }
+        ensures { Found (next_event flows.now self.now) result }
+    {
+        let first = self.tables.lowest_limit(flows);
+        let level = if self.held {
+            self.tables.lowest_flow(flows, self.base, first)
+        } else {
+            first
         };
-        best = lower(best, fills);
-    }
-    best
-}
-
-// What a flow counts in the search: its weight if it waits.
-fn waiting(stage: u64, weight: u32) -> u64
-    ensures { result ≡ on (eqb stage 22) weight }
-{
-    if stage == WAITING { weight as u64 } else { 0 }
-}
-
-// Waiting flows come after the limits.
-fn lowest_flow(first: Level, base: u64, minima: &[u32], weights: &[u32], stages: &[u64]) -> Level
-    requires small { Small first × (base ≤ most_base) × (length stages.now ≡ 64) }
-    requires minima_len { (length minima.now ≡ 64) × Bounded 64 most_asked minima.now }
-    requires weights_len { (length weights.now ≡ 64) × Bounded 64 most_parts weights.now }
-    ensures { Small result × (next_of result ≡ lowest 64 (flow_event base minima.now weights.now stages.now) (next_of first)) }
-{
-    let mut best = first;
-    for c in 0..64 {
-        let i = c as usize;
-        let rises = Level {
-            high: wide(minima[i]) * base,
-            parts: waiting(stages[i], weights[i]),
-            at: 20 + c,
-        };
-        best = lower(best, rises);
-    }
-    best
-}
-
-// The lowest level of all. Flows are searched only if some flow had a minimum at the start.
-pub fn next_level(
-    mode: Mode,
-    base: u64,
-    minima: &[u32],
-    weights: &[u32],
-    stages: &[u64],
-    left: &[u64],
-    parts: &[u64],
-) -> Level
-    requires left_len { (length left.now ≡ 20) × Bounded (limits_of mode.cards) most_high left.now × (length parts.now ≡ 20) × Bounded (limits_of mode.cards) most_parts parts.now }
-    requires base_le_most_base { (base ≤ most_base) × (length stages.now ≡ 64) × (length minima.now ≡ 64) × Bounded 64 most_asked minima.now × (length weights.now ≡ 64) × Bounded 64 most_parts weights.now }
-    ensures { Small result × (next_of result ≡ next_event mode.cards mode.held base minima.now weights.now stages.now left.now parts.now) }
-{
-    let level = lowest_limit(mode.cards, left, parts);
-    if mode.held {
-        lowest_flow(level, base, minima, weights, stages)
-    } else {
-        level
+        let nothing = level.parts == 0;
+        if nothing { None } else { Some(level) }
     }
 }

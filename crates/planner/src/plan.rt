@@ -1,12 +1,12 @@
 // The planner: a request's plan.
-ghost use Rattle.std.specs.Prelude.{◌≡◌, []};
+ghost use Rattle.std.specs.Prelude.{◌≡◌};
 ghost use Rattle.laws.specs.Lists.{list};
 ghost use Rattle.switch.specs.Within.{Within};
-ghost use Rattle.switch.specs.Tables.{request_of};
 ghost use Rattle.switch.specs.Planned.{capacity_of, plan_of};
 ghost use Rattle.switch.specs.Answer.{planned, Promised};
 
 use crate::fill::fill;
+use crate::flows::Flows;
 use requests::check::check;
 use shares::divisor::reduce;
 use shares::reason::reasons;
@@ -16,50 +16,41 @@ use switch::request::Request;
 use switch::verdict::Verdict;
 
 // The capacity of a port by the number of its limit.
-fn capacity(inputs: &[u32], outputs: &[u32], limit: u64) -> u64
-    ensures { result ≡ capacity_of (request_of 0 0 inputs.now outputs.now []) limit }
+fn capacity(request: &Request, limit: u64) -> u64
+    ensures { result ≡ capacity_of request.now limit }
 {
     if limit < 8 {
-        entry(inputs, limit, 0) as u64
+        u64::from(entry(&request.inputs, limit, 0))
     } else {
-        entry(outputs, limit - 8, 0) as u64
+        u64::from(entry(&request.outputs, limit - 8, 0))
     }
 }
 
 // The capacities of the limits. The last four are those of cards, which a request does not have.
-fn capacities(inputs: &[u32], outputs: &[u32]) -> [u64; 20]
-    ensures { result ≡ list 20 (capacity_of (request_of 0 0 inputs.now outputs.now [])) }
+fn capacities(request: &Request) -> [u64; 20]
+    ensures { result ≡ list 20 (capacity_of request.now) }
 {
-    let mut table = [0u64; 20];
-    for l in 0..20 {
-        table[l as usize] = capacity(inputs, outputs, l);
-    }
-    table
+    std::array::from_fn(|limit| capacity(request, limit as u64))
 }
 
 // The plan of a request within the limits: all ports as limits, no minima, and equal weights.
-fn worked_out(request: Request) -> Plan
-    requires { Within request }
-    ensures { result ≡ plan_of request }
+fn worked_out(request: &Request) -> Plan
+    requires { Within request.now }
+    ensures { result ≡ plan_of request.now }
 {
-    let inputs = request.inputs;
-    let outputs = request.outputs;
-    let demands = request.demands;
-    let minima = [0u32; 64];
-    let weights = [1u32; 64];
-    let limits = capacities(&inputs, &outputs);
-    let mut numerators = [0u64; 64];
-    let filled = fill(
-        false,
-        1,
-        limits,
-        &demands,
-        &minima,
-        &weights,
-        &mut numerators,
-    );
+    let minima = [0; 64];
+    let weights = [1; 64];
+    let flows = Flows {
+        cards: false,
+        heaviest: 1,
+        demands: &request.demands,
+        minima: &minima,
+        weights: &weights,
+    };
+    let mut numerators = [0; 64];
+    let filled = fill(&flows, capacities(request), &mut numerators);
     let base = reduce(filled, &mut numerators);
-    let reasons = reasons(&request, base, &numerators);
+    let reasons = reasons(request, base, &numerators);
     Plan {
         base,
         numerators,
@@ -75,7 +66,7 @@ pub fn plan(request: Request) -> Planned
     match verdict {
         Verdict::Accepted => Planned {
             verdict,
-            plan: worked_out(request),
+            plan: worked_out(&request),
         },
         Verdict::Refused(_) => Planned {
             verdict,

@@ -1,63 +1,46 @@
 // The stage of every flow at the start.
-ghost use Rattle.std.specs.Prelude.{◌<◌, ◌≡◌, length, replicate};
-ghost use Rattle.laws.specs.Lists.{cells, list};
-ghost use Rattle.planner.specs.Tables.{Covers, Holds, Halted, Roomy, Shared, Taken, Added};
-ghost use Rattle.planner.specs.Engine.{first_stage, first_weight, start_stage, start_weight, Unheld};
+ghost use Rattle.std.specs.Prelude.{◌<◌, ◌≡◌, ◌||◌, ltb};
+ghost use Rattle.laws.specs.Lists.{cells};
+ghost use Rattle.planner.specs.Engine.{BeginRoom, BegunAt, StartRoom, Started};
 
+use crate::flows::Flows;
 use crate::limits::{give, take};
-use crate::stage::{MET, RISING, WAITING};
+use crate::stage::{Kind, Stage};
+use crate::tables::Tables;
 
-// A flow with a minimum has it at once and waits; any other rises, unless it asks for nothing.
-fn begin(
-    cards: bool,
-    cell: u64,
-    demand: u32,
-    minimum: u32,
-    weight: u32,
-    stages: &mut [u64],
-    left: &mut [u64],
-    parts: &mut [u64],
-)
-    requires { (cell < 64) × (length stages.old ≡ 64) × Covers cards cell minimum left.old × Holds cards cell weight parts.old }
-    ensures { Halted cards cell (first_stage demand minimum) minimum (first_weight demand minimum weight) stages.old stages.new left.old left.new parts.new parts.old }
-{
-    let i = cell as usize;
-    if 0 < minimum {
-        stages[i] = WAITING;
-        take(cards, cell, minimum as u64, left);
-    } else if 0 < demand {
-        stages[i] = RISING;
-        give(cards, cell, weight as u64, parts);
-    } else {
-        stages[i] = MET;
+impl Tables {
+    // A flow with a minimum has it at once and waits; any other rises, unless it asks for nothing. Whether some flow waits is handed
+    // in and answered, so that only a flow with a minimum changes it.
+    fn begin(&mut self, flows: &Flows, cell: usize, held: bool) -> bool
+        requires { (cell < 64) × BeginRoom flows.now cell self.old }
+        ensures waits { result ≡ (held || ltb 0 (cells flows.now.minima.now cell)) }
+        ensures begun { BegunAt flows.now cell self.old self.new }
+    {
+        let minimum = u64::from(flows.minima[cell]);
+        let weight = u64::from(flows.weights[cell]);
+        if 0 < minimum {
+            self.stages[cell] = Stage::of(Kind::Waiting);
+            take(flows.cards, cell, minimum, &mut self.left);
+            true
+        } else if 0 < flows.demands[cell] {
+            self.stages[cell] = Stage::of(Kind::Rising);
+            give(flows.cards, cell, weight, &mut self.parts);
+            held
+        } else {
+            self.stages[cell] = Stage::of(Kind::Met);
+            held
+        }
     }
-}
 
-// Sets out all flows, and tells whether some have to wait: if none has, the search need not look at flows.
-pub fn start(
-    cards: bool,
-    demands: &[u32],
-    minima: &[u32],
-    weights: &[u32],
-    stages: &mut [u64],
-    left: &mut [u64],
-    parts: &mut [u64],
-) -> bool
-    requires demands_len { (length demands.now ≡ 64) × (length minima.now ≡ 64) × (length weights.now ≡ 64) × (length stages.old ≡ 64) }
-    requires roomy { Roomy cards (cells minima.now) left.old × Shared cards weights.now × (parts.old ≡ replicate 20 0) }
-    ensures unheld { Unheld 64 result minima.now }
-    ensures stages_after { stages.new ≡ list 64 (start_stage demands.now minima.now) }
-    ensures taken { Taken cards 64 (cells minima.now) left.old left.new }
-    ensures added { Added cards 64 (start_weight demands.now minima.now weights.now) parts.new }
-{
-    let mut held = false;
-    for c in 0..64 {
-        let i = c as usize;
-        let minimum = minima[i];
-        begin(
-            cards, c, demands[i], minimum, weights[i], stages, left, parts,
-        );
-        held = held | (0 < minimum);
+    // Sets out all flows, and tells whether some have to wait: if none has, the search need not look at flows.
+    pub fn start(&mut self, flows: &Flows) -> bool
+        requires { StartRoom flows.now self.old }
+        ensures { Started flows.now result self.old self.new }
+    {
+        let mut held = false;
+        for cell in 0..64 {
+            held = self.begin(flows, cell, held);
+        }
+        held
     }
-    held
 }

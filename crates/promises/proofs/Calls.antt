@@ -62,13 +62,14 @@ requests =
 shares : SharesCalls
 shares =
     record {
-      plus = settles (λ κ a. tt) (λ κ a z e p. p);
       times = settles (λ κ a. tt) (λ κ a z e p. p);
-      ports = settles (λ κ a. tt) (λ κ a z e p. p);
+      port = λ P laws copy end ends clone dict nothing. settles (λ κ a l m. nowhere (subst (λ ls. Mem l ls) nothing m)) (λ κ a z e p. p);
       input_port = settles (λ κ a. tt) (λ κ a z e p. p);
       output_port = settles (λ κ a. tt) (λ κ a z e p. p);
       holds = settles (λ κ a. tt) (λ κ a z e p. p);
       reason = settles (λ κ a. tt) (λ κ a z e p. p);
+      level = settles (λ κ a. tt) (λ κ a z e p. p);
+      reason_by = settles (λ κ a. tt) (λ κ a z e p. p);
       reasons = settles (λ κ a. tt) (λ κ a z e p. p);
       divisor = settles (λ κ a. tt) (λ κ a z e p. p);
       common_divisor = settles (λ κ a. tt) (λ κ a z e p. p);

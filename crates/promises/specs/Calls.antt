@@ -5,7 +5,7 @@
 -- and `now` is what a reference refers to. Of a slice that is handed back a caller sees its bytes and its place in memory, and no more.
 -- Where a call takes a type T, what is said holds of every T that refers to nothing (`T.lives`), as numbers do; for other types it would
 -- also ask that what they refer to lives as long as the call.
-use Rattle.std.specs.Prelude.{◌≡◌, ◌+◌, ◌*◌, min, cond, [], get_or}
+use Rattle.std.specs.Prelude.{◌≡◌, ◌*◌, [], get_or}
 use Rattle.fairness.specs.Divisor.{gcd, gcd_of}
 use Rattle.words.specs.Words.{word_at, with_word}
 use Rattle.words.specs.Check.{start_of, check, word_in, sealed, sealed_in}
@@ -14,15 +14,15 @@ use Rattle.switch.specs.Halves.{half_number}
 use Rattle.switch.specs.Numbering.{number_of}
 use Rattle.switch.specs.RequestRows.{request_verdict}
 use Rattle.switch.specs.Rows.{refusal, or_else, row_verdict}
-use Rattle.switch.specs.Tables.{used_end, request_of}
+use Rattle.switch.specs.Tables.{used_end}
 use Rattle.switch.specs.Values.{zero_request, empty_plan}
-use Rattle.worked.specs.Port.{input_port, output_port}
+use Rattle.worked.specs.Port.{port_of, input_port, output_port}
 use Rattle.worked.specs.Reason.{holds, reason_from, reasons_at}
 use Rattle.worked.specs.Reduced.{reduced_base, reduced_numerators}
-use Rattle.worked.specs.Saturated.{capped, ports}
+use Rattle.worked.specs.Saturated.{capped}
 use Rattle.switch.specs.Answer.{planned}
-use Rattle.judging.specs.PlanRows.{plan_with, half_not_zero, base_row, judged}
-use Rattle.worked.specs.Worked.{rates_worked}
+use Rattle.judging.specs.PlanRows.{half_not_zero, base_row, judged}
+use Rattle.worked.specs.Worked.{level_of, reason_by, rates_worked}
 use Rattle.formats.specs.Chosen.{chosen, chosen_at}
 use Rattle.formats.specs.PlanFile.{check_verdict, plan_written}
 use Rattle.formats.specs.RequestFile.{read_verdict, request_read, request_written}
@@ -56,13 +56,14 @@ use Rattle.switch.proofs.verdict.refused.Reads as Refused
 use Rattle.switch.proofs.verdict.Verdict.or_else.Reads as OrElse
 use Rattle.switch.proofs.verdict.Cause.number.Reads as Number
 use Rattle.requests.proofs.check.check.Reads as RequestCheck
-use Rattle.shares.proofs.arithmetic.plus.Reads as Plus
 use Rattle.shares.proofs.arithmetic.times.Reads as Times
-use Rattle.shares.proofs.count.ports.Reads as Ports
+use Rattle.shares.proofs.port.port.Reads as Port
 use Rattle.shares.proofs.port.input_port.Reads as InputPort
 use Rattle.shares.proofs.port.output_port.Reads as OutputPort
 use Rattle.shares.proofs.reason.holds.Reads as Holds
 use Rattle.shares.proofs.reason.reason.Reads as Reason
+use Rattle.shares.proofs.reason.level.Reads as Level
+use Rattle.shares.proofs.reason.reason_by.Reads as ReasonBy
 use Rattle.shares.proofs.reason.reasons.Reads as Reasons
 use Rattle.shares.proofs.divisor.divisor.Reads as Divisor
 use Rattle.shares.proofs.divisor.common_divisor.Reads as CommonDivisor
@@ -120,18 +121,21 @@ pub record SwitchCalls : Type 2 where
 pub record RequestsCalls : Type 0 where
   pub check : Settles RequestCheck.Asked RequestCheck.Post (λ κ z e. z) (λ κ (request, _). request_verdict request)
 
-pub record SharesCalls : Type 0 where
-  pub plus : Settles Plus.Asked Plus.Post (λ κ z e. z) (λ κ (x, (y, _)). capped (x + y))
+pub record SharesCalls : Type 2 where
   pub times : Settles Times.Asked Times.Post (λ κ z e. z) (λ κ (x, (y, _)). capped (x * y))
-  pub ports : Settles Ports.Asked Ports.Post (λ κ z e. z) (λ κ (count, _). ports count)
+  pub port : (P : RattleType) (laws : _) (copy : _) (end : _) (ends : _) (clone : _) (dict : _) → P.lives ≡ []
+      → Settles (Port.Asked P laws copy end ends clone dict) (Port.Post P laws copy end ends clone dict) (λ κ z e. z)
+      (λ κ (count, (xs, (p, _))). port_of count (λ k. get_or xs.now (end.flow p k) 0))
   pub input_port : Settles InputPort.Asked InputPort.Post (λ κ z e. z) (λ κ (n, (xs, (u, _))). input_port n xs.now u)
   pub output_port : Settles OutputPort.Asked OutputPort.Post (λ κ z e. z) (λ κ (m, (xs, (v, _))). output_port m xs.now v)
   pub holds : Settles Holds.Asked Holds.Post (λ κ z e. z)
       (λ κ (port, (capacity, (d, (b, (x, _))))). holds port capacity d b x)
   pub reason : Settles Reason.Asked Reason.Post (λ κ z e. z)
       (λ κ (port, (capacity, (d, (b, (x, _))))). reason_from port capacity d b x)
+  pub level : Settles Level.Asked Level.Post (λ κ z e. z) (λ κ (full, (port, _)). level_of full port.sum port.most)
+  pub reason_by : Settles ReasonBy.Asked ReasonBy.Post (λ κ z e. z) (λ κ (asked, (entering, (x, _))). reason_by asked entering x)
   pub reasons : Settles Reasons.Asked Reasons.Post (λ κ z e. z)
-      (λ κ (m, (n, (inputs, (ds, (b, (xs, _)))))). reasons_at m n inputs.now ds.now b xs.now)
+      (λ κ (request, (b, (xs, _))). reasons_at request.now.m request.now.n request.now.inputs request.now.demands b xs.now)
   pub divisor : Settles Divisor.Asked Divisor.Post (λ κ z e. z) (λ κ (x, (y, _)). gcd x y)
   pub common_divisor : Settles CommonDivisor.Asked CommonDivisor.Post (λ κ z e. z) (λ κ (b, (xs, _)). gcd_of b xs.now)
   pub reduce : Settles Reduce.Asked Reduce.Post (λ κ z e. z) (λ κ (b, (xs, _)). reduced_base b xs.now)
@@ -144,10 +148,9 @@ pub record PlannerCalls : Type 0 where
 pub record CheckerCalls : Type 0 where
   pub judge : Settles Judge.Asked Judge.Post (λ κ z e. z) (λ κ (request, (plan, _)). judged request plan)
   pub unused : Settles Unused.Asked Unused.Post (λ κ z e. z)
-      (λ κ (m, (n, (second, (xs, (reasons, _))))).
-      row_verdict (half_not_zero (request_of m n [] [] []) (plan_with 0 xs.now reasons.now) (cond second 1 0)))
+      (λ κ (request, (plan, (half, _))). row_verdict (half_not_zero request.now plan.now (half_number half)))
   pub base_row : Settles BaseRow.Asked BaseRow.Post (λ κ z e. z) (λ κ (base, _). row_verdict (base_row base))
-  pub rates : Settles Rates.Asked Rates.Post (λ κ z e. z) (λ κ (request, (plan, _)). rates_worked request plan)
+  pub rates : Settles Rates.Asked Rates.Post (λ κ z e. z) (λ κ (request, (plan, _)). rates_worked request.now plan.now)
 
 pub record FilesCalls : Type 0 where
   pub read_request : Settles ReadRequest.Asked ReadRequest.Post (λ κ z e. z) (λ κ (file, _). request_read file.now)

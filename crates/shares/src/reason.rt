@@ -2,8 +2,9 @@
 ghost use Rattle.std.specs.Prelude.{◌≡◌, ◌*◌, ◌<◌, get_or};
 ghost use Rattle.worked.specs.Overwritten.{overwritten};
 ghost use Rattle.worked.specs.Port.{input_port};
-ghost use Rattle.worked.specs.Reason.{holds, reason_from, reason_given, reason_in, reasons_at};
+ghost use Rattle.worked.specs.Reason.{holds, reason_from, reason_in, reasons_at};
 ghost use Rattle.worked.specs.Saturated.{ports};
+ghost use Rattle.worked.specs.Worked.{level_of, reason_by};
 
 use crate::arithmetic::times;
 use crate::port::input_port;
@@ -28,24 +29,33 @@ pub fn holds(port: Port, capacity: u32, demand: u32, base: u64, x: u64) -> bool
     (x < times(demand, base)) & (port.sum == times(capacity, base)) & (port.most <= x)
 }
 
-// The reason of a flow that asks for `asked`, if it is known whether its input is full: a row asks that once for its cells.
-fn reason_of(full: bool, most: u64, asked: u64, x: u64) -> u8
-    ensures { result ≡ reason_given full most asked x }
+// From which numerator on a port holds a flow back, if it is full with `full`: a port that is not full holds back none, and no
+// flow below its demand has the largest number of all.
+pub fn level(full: u64, port: Port) -> u64
+    ensures { result ≡ level_of full port.sum port.most }
+{
+    let Port { sum, most } = port;
+    if sum == full { most } else { u64::MAX }
+}
+
+// The reason of a flow that asks for `asked`, by the level of its input.
+pub fn reason_by(asked: u64, entering: u64, x: u64) -> u8
+    ensures { result ≡ reason_by asked entering x }
 {
     if x == asked {
-        MET
-    } else if (x < asked) & full & (most <= x) {
-        INPUT
-    } else {
-        OUTPUT
+        return MET;
     }
+    if asked < x {
+        return OUTPUT;
+    }
+    if entering <= x { INPUT } else { OUTPUT }
 }
 
 pub fn reason(input: Port, capacity: u32, demand: u32, base: u64, x: u64) -> u8
     ensures { result ≡ reason_from input capacity demand base x }
 {
-    let full = input.sum == times(capacity, base);
-    reason_of(full, input.most, times(demand, base), x)
+    let entering = level(times(capacity, base), input);
+    reason_by(times(demand, base), entering, x)
 }
 
 // Fills the used cells of input `u`.
@@ -54,11 +64,11 @@ fn fill_row(request: &Request, base: u64, numerators: &[u64; 64], u: Input, tabl
     ensures { table.new ≡ overwritten (8 * u.0) (ports request.now.n) (reason_in (input_port request.now.n numerators.now u) (get_or request.now.inputs u.0 0) request.now.demands base numerators.now) table.old }
 {
     let input = input_port(request.n, numerators, u);
-    let full = input.sum == times(request.inputs[u.0 as usize], base);
+    let entering = level(times(request.inputs[u.0 as usize], base), input);
     for v in 0..request.n.min(8) {
         let c = cell(u, Output(v)) as usize;
         let asked = times(request.demands[c], base);
-        table[c] = reason_of(full, input.most, asked, numerators[c]);
+        table[c] = reason_by(asked, entering, numerators[c]);
     }
 }
 

@@ -2,11 +2,11 @@
 -- search of them, or of the others, says of the row.
 use Prim.Native.Nat.{ℕ, ◌+◌, ◌*◌, ◌%◌, ◌≤◌, ◌<◌, min}
 use mathlib.Core.Logic.{◌⊎◌, inl, inr}
-use mathlib.Core.Path.{◌≡◌, refl, ◌∙◌, ap, sym}
+use mathlib.Core.Path.{◌≡◌, refl, ◌∙◌, ap, sym, subst}
 use mathlib.Core.Bool.{Bool, true, false, cond, not}
 use mathlib.Core.List.{List}
 use lib.Dec.{ltb}
-use lib.ListN.{get_or}
+use lib.ListN.{get_or, length, get_or-eq_default}
 use native.Mathlib.Omega.{arith}
 use borrow.Author.Tests.{lt-ltb, le-ltb, ltb-true, ltb-false}
 use Rattle.laws.proofs.Search.{le_or_lt}
@@ -98,3 +98,25 @@ sought_stretch place {is_used = is_used} {end = end} few low high split false f 
     sought_part place {counts = λ k. not (is_used k)} few low (omega arith)
     (λ k l h e. (ltb-false k end (sym (split k l h) ∙ not_true (is_used k) e), h))
     (λ k l h. ap not (split k (omega arith) h ∙ le-ltb k end l)) f
+
+-- One more number that is no more than `most`.
+pub none_more : (xs : List ℕ) (most first c : ℕ) → ((k : ℕ) → first ≤ k → k < c → get_or xs k 0 ≤ most) → get_or xs c 0 ≤ most
+    → (k : ℕ) → first ≤ k → k < c + 1 → get_or xs k 0 ≤ most
+none_more xs most first c none here k l h = go (le_or_lt c k)
+  where
+    go : (c ≤ k) ⊎ (k < c) → get_or xs k 0 ≤ most
+    go (inl e) = subst (λ (x : ℕ). get_or xs x 0 ≤ most) (omega arith) here
+    go (inr e) = none k l e
+
+-- Once all of a table that lies before `last` has been passed nothing before `last` is left: past its end a table counts as 0.
+pub none_left : (xs : List ℕ) (most first last c : ℕ) → ((k : ℕ) → first ≤ k → k < c → get_or xs k 0 ≤ most)
+    → min last (length xs) ≤ c
+    → (k : ℕ)
+    → first ≤ k
+    → k < last
+    → get_or xs k 0 ≤ most
+none_left xs most first last c none all k l h = go (le_or_lt (length xs) k)
+  where
+    go : (length xs ≤ k) ⊎ (k < length xs) → get_or xs k 0 ≤ most
+    go (inl e) = omega (arith, get_or-eq_default xs 0 e)
+    go (inr e) = none k l (omega arith)

@@ -1,73 +1,95 @@
-// The worked listing's plan file with words changed, row by row of a table. The request's file is its first block, so each
+// The worked listing's plan file with words changed, run by run of a table. The request's file is its first block, so each
 // change is tried on both; and the file is proposed in place of a running one.
-use crate::example::{read, write};
+use crate::example::{read, request};
 use crate::file_rows::{CHANGES, CHOICES};
-use crate::show::{becomes, number, text};
+use crate::show::as_well;
 use blocks::check::{seal, start_of};
 use blocks::word::{put, word};
 use files::choose::choose;
 use files::plan::write_plan;
+use std::fmt;
 use switch::request::Request;
 
-// A row is one number: so many times WORD as is the word's number in the file, what of the following is so, and what the word
-// is changed to. A table of arrays would be easier to read, and takes the prover a tenth of a second for each row.
-pub const WORD: u64 = 4 * ALSO;
+// A word of the file, what it is changed to, and how its block is sealed then: as it is, as if it were the next one, or not again.
+#[derive(Clone, Copy)]
+pub enum Change {
+    Sealed { word: u16, to: u32 },
+    AsNext { word: u16, to: u32 },
+    Unsealed { word: u16, to: u32 },
+}
 
-// The changes before stay; otherwise the file is written anew.
-pub const ALSO: u64 = 4_294_967_296;
+impl Change {
+    fn word(self) -> (u16, u32) {
+        match self {
+            Change::Sealed { word, to }
+            | Change::AsNext { word, to }
+            | Change::Unsealed { word, to } => (word, to),
+        }
+    }
 
-// The word's block is sealed as if it were the next one.
-pub const OTHER: u64 = 2 * ALSO;
+    fn seal(self) -> &'static str {
+        match self {
+            Change::Sealed { .. } => "",
+            Change::AsNext { .. } => ", sealed as the next block",
+            Change::Unsealed { .. } => ", not sealed",
+        }
+    }
 
-// It is not sealed again: it counts as a block past the end of the file, where sealing changes nothing.
-pub const UNSEALED: u64 = 512 * WORD;
-
-fn told(row: u64) {
-    number(b"\nfile, word ", row / WORD % 512);
-    becomes(row % ALSO, row / ALSO % 2 == 1);
-    if UNSEALED <= row {
-        text(b", not sealed");
-    } else if row / OTHER % 2 == 1 {
-        text(b", sealed as the next block");
+    fn make(self, file: &mut [u8]) {
+        let (word, to) = self.word();
+        let block = u32::from(word / 128);
+        put(file, u64::from(word), to);
+        match self {
+            Change::Sealed { .. } => seal(start_of(block), file, block),
+            Change::AsNext { .. } => seal(start_of(block + 1), file, block),
+            Change::Unsealed { .. } => {}
+        }
     }
 }
 
 // The plan that is chosen is told by its base.
-fn judged<'a>(file: &'a [u8], running: &'a [u8]) {
-    if 512 <= file.len() {
-        read(&file[0..512], file);
-        let part = choose(file, running);
-        number(b", chosen ", part.len() as u64);
-        number(b" bytes of base ", word(part, 1) as u64);
-    }
+fn judged(out: &mut impl fmt::Write, file: &[u8; 1536], running: &[u8]) -> fmt::Result {
+    let part = choose(file, running);
+    let both = read(&file[..512], file);
+    writeln!(
+        out,
+        ": {both}, chosen {} bytes of base {}",
+        part.len(),
+        word(part, 1)
+    )
 }
 
-// With m = 0 nothing is written. That takes the prover less than a branch.
-fn changed(row: u64, file: &mut [u8], running: &[u8]) {
-    let block = row / WORD / 128;
-    told(row);
-    write(true, (2 - 2 * (row / ALSO % 2)) as u32, file);
-    put(file, row / WORD % 512, (row % ALSO) as u32);
-    seal(
-        start_of((block + row / OTHER % 2) as u32),
-        file,
-        block as u32,
-    );
-    judged(file, running);
+// The changes come one on top of another, and each is tried.
+fn run(out: &mut impl fmt::Write, changes: &[Change], running: &[u8]) -> fmt::Result {
+    let mut file = [0; 1536];
+    write_plan(request(), &mut file);
+    for (before, change) in changes.iter().enumerate() {
+        let (word, to) = change.word();
+        change.make(&mut file);
+        write!(
+            out,
+            "file, word {word} = {to}{}{}",
+            as_well(0 < before),
+            change.seal()
+        )?;
+        judged(out, &file, running)?;
+    }
+    Ok(())
 }
 
-fn all(table: &[u64], file: &mut [u8], running: &[u8]) {
-    for k in 0..table.len() {
-        changed(table[k], file, running);
+fn table(out: &mut impl fmt::Write, table: &[&[Change]], running: &[u8]) -> fmt::Result {
+    for changes in table {
+        run(out, changes, running)?;
     }
+    Ok(())
 }
 
 // The plan of this request is running, and is then damaged.
-pub fn tables(request: Request) {
-    let mut running = [0u8; 1536];
+pub fn all(out: &mut impl fmt::Write, request: Request) -> fmt::Result {
+    let mut running = [0; 1536];
     write_plan(request, &mut running);
-    all(&CHANGES, &mut [0u8; 1536], &running);
-    text(b"\nthe running file damaged");
+    table(out, &CHANGES, &running)?;
+    writeln!(out, "the running file damaged")?;
     put(&mut running, 130, 1);
-    all(&CHOICES, &mut [0u8; 1536], &running);
+    table(out, &CHOICES, &running)
 }

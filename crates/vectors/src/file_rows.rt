@@ -1,80 +1,94 @@
 // The words that are changed in the worked listing's plan file: the refusals 2 to 15, by their numbers.
-use crate::changes::{ALSO, OTHER, UNSEALED, WORD};
+use crate::changes::Change::{self, AsNext, Sealed, Unsealed};
+use crate::values::OVER;
+use switch::request::Request;
 
-pub const CHANGES: [u64; 56] = [
-    0 * WORD + 1, // nothing changed
+// The largest capacity and demand.
+const MOST: u32 = Request::DEMAND;
+
+pub const CHANGES: [&[Change]; 43] = [
+    &[Sealed { word: 0, to: 1 }], // nothing changed
     // 2. A block whose check is not its own. Each of the three in a row is before the one that is already damaged.
-    27 * WORD + UNSEALED + 3,
-    27 * WORD + OTHER + 3,
-    127 * WORD + UNSEALED, // the check itself
-    257 * WORD + UNSEALED + 4,
-    131 * WORD + ALSO + UNSEALED + 8,
-    27 * WORD + ALSO + UNSEALED + 3,
-    128 * WORD + OTHER + 2, // nothing changed but the check
+    &[Unsealed { word: 27, to: 3 }],
+    &[AsNext { word: 27, to: 3 }],
+    &[Unsealed { word: 127, to: 0 }], // the check itself
+    &[
+        Unsealed { word: 257, to: 4 },
+        Unsealed { word: 131, to: 8 },
+        Unsealed { word: 27, to: 3 },
+    ],
+    &[AsNext { word: 128, to: 2 }], // nothing changed but the check
     // 3. Kinds.
-    0 * WORD + 2,
-    128 * WORD + 3,
-    256 * WORD + 2,
+    &[Sealed { word: 0, to: 2 }],
+    &[Sealed { word: 128, to: 3 }],
+    &[Sealed { word: 256, to: 2 }],
     // 4. m, then n.
-    1 * WORD + 9,
-    1 * WORD,
-    1 * WORD + 8,
-    2 * WORD + 9,
-    2 * WORD,
+    &[Sealed { word: 1, to: 9 }],
+    &[Sealed { word: 1, to: 0 }],
+    &[Sealed { word: 1, to: 8 }],
+    &[Sealed { word: 2, to: 9 }],
+    &[Sealed { word: 2, to: 0 }],
     // 6 and 5. The demand from input 1 to output 0, and output 0's capacity too; then the largest numbers that may be.
-    27 * WORD + 16_777_217,
-    11 * WORD + ALSO + 16_777_217,
-    19 * WORD + 16_777_216,
-    11 * WORD + ALSO + 16_777_216,
+    &[Sealed { word: 27, to: OVER }, Sealed { word: 11, to: OVER }],
+    &[Sealed { word: 19, to: MOST }, Sealed { word: 11, to: MOST }],
     // 7. In block 0 an unused input's capacity, an unused output's, an unused cell's demand, the first and the last spare word.
-    5 * WORD + 1,
-    13 * WORD + 1,
-    21 * WORD + 1,
-    83 * WORD + 1,
-    126 * WORD + 1,
+    &[Sealed { word: 5, to: 1 }],
+    &[Sealed { word: 13, to: 1 }],
+    &[Sealed { word: 21, to: 1 }],
+    &[Sealed { word: 83, to: 1 }],
+    &[Sealed { word: 126, to: 1 }],
     // 7. In the blocks of the plan, where cell 2 is the first unused one, 31 and 32 are where they meet, and cell 63 is the last:
     // numerators, the low word and the high one; reasons, which stand four to a word; and spare words.
-    135 * WORD + 1,
-    136 * WORD + 1,
-    195 * WORD + 65_793,
-    203 * WORD + 1,
-    259 * WORD + 1,
-    322 * WORD + 1,
-    330 * WORD + 16_777_216,
-    382 * WORD + 1,
+    &[Sealed { word: 135, to: 1 }],
+    &[Sealed { word: 136, to: 1 }],
+    &[Sealed {
+        word: 195,
+        to: 65793,
+    }],
+    &[Sealed { word: 203, to: 1 }],
+    &[Sealed { word: 259, to: 1 }],
+    &[Sealed { word: 322, to: 1 }],
+    &[Sealed {
+        word: 330,
+        to: MOST,
+    }],
+    &[Sealed { word: 382, to: 1 }],
     // 9 and 8. Base 4 and base 4294967298 in one block only; then 0 in both, and 4294967296 in both.
-    257 * WORD + 4,
-    258 * WORD + 1,
-    130 * WORD + 1,
-    129 * WORD,
-    257 * WORD + ALSO,
-    130 * WORD + ALSO + 1,
-    258 * WORD + ALSO + 1,
+    &[Sealed { word: 257, to: 4 }],
+    &[Sealed { word: 258, to: 1 }],
+    &[Sealed { word: 130, to: 1 }],
+    &[
+        Sealed { word: 129, to: 0 },
+        Sealed { word: 257, to: 0 },
+        Sealed { word: 130, to: 1 },
+        Sealed { word: 258, to: 1 },
+    ],
     // 11, 12 and 13. The numerators of cells 0, 1, 8 and 9 begin in words 131, 133, 147 and 149. No rates that this request
     // bounds can bring an output over its capacity, so the capacity is lowered.
-    147 * WORD + 5,
-    132 * WORD + 1,
-    131 * WORD + 8,
-    12 * WORD + 4,
+    &[Sealed { word: 147, to: 5 }],
+    &[Sealed { word: 132, to: 1 }],
+    &[Sealed { word: 131, to: 8 }],
+    &[Sealed { word: 12, to: 4 }],
     // 14. Input 0 is not full with 6 and 7; with 6 and 8 it is, but 6 is not its largest.
-    149 * WORD + 1,
-    131 * WORD + 6,
-    133 * WORD + ALSO + 8,
+    &[Sealed { word: 149, to: 1 }],
+    &[Sealed { word: 131, to: 6 }, Sealed { word: 133, to: 8 }],
     // 10 and 15. The reasons of cells 0 to 3 are in word 195, those of cells 8 to 11 in word 197.
-    195 * WORD + 769,
-    195 * WORD + 513,
-    197 * WORD + 256,
+    &[Sealed { word: 195, to: 769 }],
+    &[Sealed { word: 195, to: 513 }],
+    &[Sealed { word: 197, to: 256 }],
     // All numbers of its plan times 3: the last of these rows is accepted.
-    129 * WORD + 6,
-    257 * WORD + ALSO + 6,
-    131 * WORD + ALSO + 21,
-    133 * WORD + ALSO + 21,
-    147 * WORD + ALSO + 12,
-    149 * WORD + ALSO + 6,
+    &[
+        Sealed { word: 129, to: 6 },
+        Sealed { word: 257, to: 6 },
+        Sealed { word: 131, to: 21 },
+        Sealed { word: 133, to: 21 },
+        Sealed { word: 147, to: 12 },
+        Sealed { word: 149, to: 6 },
+    ],
 ];
 
 // What is proposed in place of a damaged file.
-pub const CHOICES: [u64; 2] = [
-    0 * WORD + 1, // nothing changed
-    27 * WORD + UNSEALED + 3,
+pub const CHOICES: [&[Change]; 2] = [
+    &[Sealed { word: 0, to: 1 }], // nothing changed
+    &[Unsealed { word: 27, to: 3 }],
 ];

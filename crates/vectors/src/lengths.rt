@@ -1,65 +1,66 @@
 // Buffers of lengths about those of the files: the worked listing's files are written into them, and they are read as files.
-use crate::example::{read, write};
-use crate::show::{number, verdict};
+ghost use Rattle.std.specs.Prelude.{◌<◌, ◌≤◌};
 
-// A row is so many times FILE as the file is long, so many times M as there are inputs, and the buffer's length.
-const FILE: u64 = 4 * M;
+use crate::example::{read, request};
+use files::plan::write_plan;
+use files::request::write_request;
+use std::fmt;
+use switch::request::Request;
+use switch::verdict::Verdict;
 
-const M: u64 = 4096;
-
-const TABLE: [u64; 16] = [
-    512 * FILE,
-    512 * FILE + 511,
-    512 * FILE + 512,
-    512 * FILE + 513,
-    512 * FILE + 2 * M,
-    512 * FILE + 2 * M + 511,
-    512 * FILE + 2 * M + 512,
-    512 * FILE + 2 * M + 513,
-    1536 * FILE,
-    1536 * FILE + 1535,
-    1536 * FILE + 1536,
-    1536 * FILE + 1537,
-    1536 * FILE + 2 * M,
-    1536 * FILE + 2 * M + 1535,
-    1536 * FILE + 2 * M + 1536,
-    1536 * FILE + 2 * M + 1537,
-];
-
-fn told(length: u64, room: u64, m: u64) {
-    number(b"\nfile of ", length);
-    number(b" bytes into ", room);
-    number(b" with m = ", m);
+#[derive(Clone, Copy)]
+enum File {
+    Request,
+    Plan,
 }
 
-fn ends(first: u8, last: u8) {
-    number(b", first byte ", first as u64);
-    number(b", last byte ", last as u64);
-}
-
-fn written(plan: bool, m: u32, buffer: &mut [u8]) {
-    verdict(b" is", write(plan, m, buffer));
-    read(buffer, buffer);
-    if 0 < buffer.len() {
-        ends(buffer[0], buffer[buffer.len() - 1]);
+impl File {
+    fn length(self) -> usize
+        ensures { (0 < result) × (result ≤ 1536) }
+    {
+        match self {
+            File::Request => 512,
+            File::Plan => 1536,
+        }
     }
+
+    fn write(self, request: Request, buffer: &mut [u8]) -> Verdict {
+        match self {
+            File::Request => write_request(request, buffer),
+            File::Plan => write_plan(request, buffer),
+        }
+    }
+}
+
+fn written(out: &mut impl fmt::Write, file: File, m: u32, buffer: &mut [u8]) -> fmt::Result {
+    let verdict = file.write(Request { m, ..request() }, buffer);
+    write!(out, " is {}: {}", verdict, read(buffer, buffer))?;
+    if let (Some(first), Some(last)) = (buffer.first(), buffer.last()) {
+        write!(out, ", first byte {first}, last byte {last}")?;
+    }
+    writeln!(out)
 }
 
 // Every byte is 170 before.
-fn tried(row: u64) {
-    let m = row / M % 4;
-    told(row / FILE, row % M, m);
-    let mut space = [170u8; 1537];
-    let end = io::count((row % M) as isize, &space);
-    written(row / FILE == 1536, m as u32, &mut space[..end]);
+fn tried(out: &mut impl fmt::Write, file: File, m: u32, room: usize) -> fmt::Result {
+    let length = file.length();
+    write!(out, "file of {length} bytes into {room} with m = {m}")?;
+    let mut space = [170; 1537];
+    let room = room.min(space.len());
+    written(out, file, m, &mut space[..room])
 }
 
-fn rows(table: &[u64]) {
-    for k in 0..table.len() {
-        tried(table[k]);
+fn rooms(out: &mut impl fmt::Write, file: File, m: u32) -> fmt::Result {
+    let length = file.length();
+    for room in [0, length - 1, length, length + 1] {
+        tried(out, file, m, room)?;
     }
+    Ok(())
 }
 
-pub fn all() {
-    rows(&TABLE);
+pub fn all(out: &mut impl fmt::Write) -> fmt::Result {
+    rooms(out, File::Request, 0)?;
+    rooms(out, File::Request, 2)?;
+    rooms(out, File::Plan, 0)?;
+    rooms(out, File::Plan, 2)
 }

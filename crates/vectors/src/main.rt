@@ -11,13 +11,35 @@ mod show;
 mod value_rows;
 mod values;
 
+use std::fmt;
+
+// Standard output by the kit's `io` and not by std's: of the C library it asks `write` alone.
+#[derive(Clone, Copy)]
+struct Out;
+
+impl fmt::Write for Out {
+    fn write_str(&mut self, text: &str) -> fmt::Result {
+        if io::write_all(1, text.as_bytes()) {
+            Ok(())
+        } else {
+            Err(fmt::Error)
+        }
+    }
+}
+
+fn all(out: &mut impl fmt::Write) -> fmt::Result {
+    writeln!(out, "the worked listing")?;
+    let last = values::all(out, example::request(), &drawn::LISTING)?;
+    writeln!(out, "the triangle")?;
+    values::all(out, last.request, &drawn::PLANS)?;
+    writeln!(out, "the triangle again")?;
+    values::all(out, last.request, &value_rows::CHANGES)?;
+    changes::all(out, last.request)?;
+    lengths::all(out)?;
+    dump::all(out)
+}
+
+// Where the output is lost there is nobody to tell.
 fn main() {
-    let last = values::all(b"the worked listing", example::request(), &drawn::LISTING);
-    let triangle = last.request;
-    values::all(b"\nthe triangle", triangle, &drawn::PLANS);
-    values::all(b"\nthe triangle again", triangle, &value_rows::CHANGES);
-    changes::tables(triangle);
-    lengths::all();
-    dump::all();
-    show::text(b"\n");
+    let _ = all(&mut Out);
 }

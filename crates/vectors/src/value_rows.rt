@@ -1,57 +1,111 @@
 // The numbers that are changed in the triangle and its plan.
-use crate::values::{
-    ALSO, AT, BASE, BOTH, DEMAND, HIGH, INPUT, M, N, NUMERATOR, OUTPUT, QUIET, REASON, SET,
-};
+use crate::values::Change::{Base, Demand, Input, M, N, Numerator, Output, Reason};
+use crate::values::{OVER, Run};
+use switch::plan::Plan;
 
-pub const CHANGES: [u64; 43] = [
+// A number of two words: 1 in the high one, and 1 in both.
+const HIGH: u64 = 4_294_967_296;
+
+const BOTH: u64 = HIGH + 1;
+
+// The two rates of the triangle, over the largest base.
+const LESS: u64 = Plan::MOST_BASE / 4;
+
+const MORE: u64 = Plan::MOST_BASE / 8 * 3;
+
+pub const CHANGES: [Run; 11] = [
     // Each fault of the request is before the one that it already has.
-    INPUT + 4 * AT + 1,
-    ALSO + DEMAND + 27 * AT + 16_777_217,
-    ALSO + OUTPUT + 3 * AT + 16_777_217,
-    ALSO + INPUT + 3 * AT + 16_777_217,
-    ALSO + N,
-    ALSO + M + 9,
+    Run {
+        made: &[],
+        tried: &[
+            Input { port: 4, to: 1 },
+            Demand { cell: 27, to: OVER },
+            Output { port: 3, to: OVER },
+            Input { port: 3, to: OVER },
+            N { to: 0 },
+            M { to: 9 },
+        ],
+    },
     // Unused cells of block 1: cell 4 is the first of them and cell 31 the last.
-    REASON + 31 * AT + 1,
-    ALSO + REASON + 4 * AT + 1,
-    ALSO + NUMERATOR + 31 * AT + HIGH + 1,
-    ALSO + NUMERATOR + 31 * AT + BOTH + 1,
-    ALSO + NUMERATOR + 4 * AT + HIGH + 1,
-    ALSO + NUMERATOR + 4 * AT + 1,
+    Run {
+        made: &[],
+        tried: &[
+            Reason { cell: 31, to: 1 },
+            Reason { cell: 4, to: 1 },
+            Numerator { cell: 31, to: HIGH },
+            Numerator { cell: 31, to: BOTH },
+            Numerator { cell: 4, to: HIGH },
+            Numerator { cell: 4, to: 1 },
+        ],
+    },
     // Unused cells of block 2 with base 0, and then one of block 1.
-    QUIET + BASE + AT,
-    ALSO + REASON + 63 * AT + 255,
-    ALSO + NUMERATOR + 63 * AT + HIGH + 1,
-    ALSO + NUMERATOR + 32 * AT + 1,
-    ALSO + REASON + 4 * AT + 1,
+    Run {
+        made: &[Base { plan: 1, to: 0 }],
+        tried: &[
+            Reason { cell: 63, to: 255 },
+            Numerator { cell: 63, to: HIGH },
+            Numerator { cell: 32, to: 1 },
+            Reason { cell: 4, to: 1 },
+        ],
+    },
     // Bases, and the largest one with numerators for it.
-    BASE + AT,
-    BASE + AT + BOTH + 1,
-    BASE + AT + HIGH + 1,
-    SET + NUMERATOR + 1_073_741_824,
-    SET + NUMERATOR + 8 * AT + 1_073_741_824,
-    SET + NUMERATOR + 9 * AT + 1_610_612_736,
-    SET + NUMERATOR + 16 * AT + 1_073_741_824,
-    SET + NUMERATOR + 17 * AT + 1_610_612_736,
-    SET + NUMERATOR + 18 * AT + 1_610_612_736,
-    SET + NUMERATOR + 24 * AT + 1_073_741_824,
-    SET + NUMERATOR + 25 * AT + 1_073_741_824,
-    SET + NUMERATOR + 26 * AT + 1_073_741_824,
-    SET + NUMERATOR + 27 * AT + 1_073_741_824,
-    ALSO + BASE + AT + HIGH + 1,
+    Run {
+        made: &[],
+        tried: &[Base { plan: 1, to: 0 }],
+    },
+    Run {
+        made: &[],
+        tried: &[Base { plan: 1, to: BOTH }],
+    },
+    Run {
+        made: &[],
+        tried: &[Base { plan: 1, to: HIGH }],
+    },
+    Run {
+        made: &[
+            Numerator { cell: 0, to: LESS },
+            Numerator { cell: 8, to: LESS },
+            Numerator { cell: 9, to: MORE },
+            Numerator { cell: 16, to: LESS },
+            Numerator { cell: 17, to: MORE },
+            Numerator { cell: 18, to: MORE },
+            Numerator { cell: 24, to: LESS },
+            Numerator { cell: 25, to: LESS },
+            Numerator { cell: 26, to: LESS },
+            Numerator { cell: 27, to: LESS },
+        ],
+        tried: &[Base { plan: 1, to: HIGH }],
+    },
     // Each fault of the rates is before the one that they already have.
-    NUMERATOR + 3,
-    ALSO + NUMERATOR + 27 * AT + 3,
-    ALSO + NUMERATOR + 9 * AT + 9,
-    ALSO + NUMERATOR + 8 * AT + BOTH + 4_294_967_295,
-    ALSO + REASON + 27 * AT + 255,
+    Run {
+        made: &[],
+        tried: &[
+            Numerator { cell: 0, to: 3 },
+            Numerator { cell: 27, to: 3 },
+            Numerator { cell: 9, to: 9 },
+            Numerator {
+                cell: 8,
+                to: u64::MAX,
+            },
+            Reason { cell: 27, to: 255 },
+        ],
+    },
     // A port that is full is no bottleneck of a flow that is not among its largest: input 3 has 2 2 1 3.
-    QUIET + NUMERATOR + 26 * AT + 1,
-    ALSO + NUMERATOR + 27 * AT + 3,
-    ALSO + NUMERATOR + 9 * AT + 2,
+    Run {
+        made: &[Numerator { cell: 26, to: 1 }],
+        tried: &[Numerator { cell: 27, to: 3 }, Numerator { cell: 9, to: 2 }],
+    },
     // Cell 9 has its output for a bottleneck, and cell 24 both its ports, of which the input counts.
-    REASON + 24 * AT + 2,
-    REASON + 24 * AT,
-    ALSO + REASON + 9 * AT + 1,
-    ALSO + REASON + 24 * AT + 3,
+    Run {
+        made: &[],
+        tried: &[Reason { cell: 24, to: 2 }],
+    },
+    Run {
+        made: &[],
+        tried: &[
+            Reason { cell: 24, to: 0 },
+            Reason { cell: 9, to: 1 },
+            Reason { cell: 24, to: 3 },
+        ],
+    },
 ];

@@ -1,48 +1,51 @@
-// A request and its plan as values with numbers changed, row by row of a table.
-use crate::show::{becomes, both, number, text};
+// A request and its plan as values with numbers changed, run by run of a table.
+use crate::show::{Both, as_well};
 use checker::judge::judge;
 use planner::plan::plan as planned;
 use requests::check::check;
+use std::fmt;
 use switch::plan::Plan;
 use switch::request::Request;
 
-// A row is one number, as in `changes`: what is changed; so many times AT as is the number of its port or its cell; what of the
-// following is so; and what it is changed to, which is below 2^32.
-pub const AT: u64 = 16 * HIGH;
+// More than any capacity or demand may be.
+pub const OVER: u32 = Request::DEMAND + 1;
 
-const KIND: u64 = 128 * AT;
-
-pub const NUMERATOR: u64 = KIND;
-
-pub const REASON: u64 = 2 * KIND;
-
-// With the number of the drawn example in the place of a cell's.
-pub const BASE: u64 = 3 * KIND;
+// One number, and what it is changed to.
+#[derive(Clone, Copy)]
+pub enum Change {
+    M { to: u32 },
+    N { to: u32 },
+    Input { port: u8, to: u32 },
+    Output { port: u8, to: u32 },
+    Demand { cell: u8, to: u32 },
+    Numerator { cell: u8, to: u64 },
+    Reason { cell: u8, to: u8 },
+    // With the number of the drawn plan that it is for.
+    Base { plan: u8, to: u64 },
+}
 
 // The numbers of a request go by the words that they have in its file, and refusals name them so.
-pub const M: u64 = 4 * KIND + AT;
+impl fmt::Display for Change {
+    fn fmt<W: fmt::Write>(&self, f: &mut fmt::Formatter<W>) -> fmt::Result {
+        match *self {
+            Change::M { to } => write!(f, "file word 1 = {to}"),
+            Change::N { to } => write!(f, "file word 2 = {to}"),
+            Change::Input { port, to } => write!(f, "file word {} = {to}", 3 + u32::from(port)),
+            Change::Output { port, to } => write!(f, "file word {} = {to}", 11 + u32::from(port)),
+            Change::Demand { cell, to } => write!(f, "file word {} = {to}", 19 + u32::from(cell)),
+            Change::Numerator { cell, to } => write!(f, "numerator {cell} = {to}"),
+            Change::Reason { cell, to } => write!(f, "reason of {cell} = {to}"),
+            Change::Base { plan, to } => write!(f, "base for P{plan} = {to}"),
+        }
+    }
+}
 
-pub const N: u64 = 8 * KIND + 2 * AT;
-
-pub const INPUT: u64 = 12 * KIND + 3 * AT;
-
-pub const OUTPUT: u64 = 16 * KIND + 11 * AT;
-
-pub const DEMAND: u64 = 20 * KIND + 19 * AT;
-
-// It is changed to so many times 2^32.
-pub const HIGH: u64 = 4_294_967_296;
-
-// It is changed to this in both its words.
-pub const BOTH: u64 = 2 * HIGH;
-
-// The changes before stay; otherwise the request and the plan are again what the table began with.
-pub const ALSO: u64 = 4 * HIGH;
-
-// Nothing is tried before the next change.
-pub const QUIET: u64 = 8 * HIGH;
-
-pub const SET: u64 = QUIET + ALSO;
+// Changes one on top of another, beginning with what the table begins with. The first are only made, and after each of the
+// others the request and the plan are judged.
+pub struct Run {
+    pub made: &'static [Change],
+    pub tried: &'static [Change],
+}
 
 #[derive(Clone, Copy)]
 pub struct Offer {
@@ -50,82 +53,66 @@ pub struct Offer {
     pub plan: Plan,
 }
 
-fn to(row: u64) -> u64 {
-    let low = row % HIGH;
-    match row / HIGH % 4 {
-        1 => low * HIGH,
-        2 => low * (HIGH + 1),
-        _ => low,
+// A port or a cell that is none changes nothing.
+fn put<T: Copy>(table: &mut [T], at: u8, to: T) {
+    if let Some(place) = table.get_mut(usize::from(at)) {
+        *place = to;
     }
 }
 
-// The capacities begin in words 3 and 11, the demands in word 19: a remainder gives the port and the cell.
-fn with_request(request: Request, at: u64, x: u64) -> Request {
-    let mut r = request;
-    let w = (x % HIGH) as u32;
-    let i = (at % 128) as usize;
-    match at / 128 {
-        4 => r.m = w,
-        8 => r.n = w,
-        12 => r.inputs[(i + 5) % 8] = w,
-        16 => r.outputs[(i + 5) % 8] = w,
-        20 => r.demands[(i + 45) % 64] = w,
-        _ => {}
+impl Offer {
+    fn with(mut self, change: Change) -> Offer {
+        match change {
+            Change::M { to } => self.request.m = to,
+            Change::N { to } => self.request.n = to,
+            Change::Input { port, to } => put(&mut self.request.inputs, port, to),
+            Change::Output { port, to } => put(&mut self.request.outputs, port, to),
+            Change::Demand { cell, to } => put(&mut self.request.demands, cell, to),
+            Change::Numerator { cell, to } => put(&mut self.plan.numerators, cell, to),
+            Change::Reason { cell, to } => put(&mut self.plan.reasons, cell, to),
+            Change::Base { plan: _, to } => self.plan.base = to,
+        }
+        self
     }
-    r
-}
 
-fn with_plan(plan: Plan, at: u64, x: u64) -> Plan {
-    let mut p = plan;
-    let cell = (at % 64) as usize;
-    match at / 128 {
-        1 => p.numerators[cell] = x,
-        2 => p.reasons[cell] = (x % 256) as u8,
-        3 => p.base = x,
-        _ => {}
+    fn judged(self) -> Both {
+        Both {
+            request: check(self.request),
+            plan: judge(self.request, self.plan),
+        }
     }
-    p
 }
 
-// The names are of one length, so that a part of one text is the name.
-fn told(row: u64, x: u64) {
-    let at = row / AT;
-    let names: &[u8] = b"\nfile word \nnumerator \nreason of \nbase for P";
-    let from = (11 * (at / 128 % 4)) as usize;
-    number(&names[from..from + 11], at % 128);
-    becomes(x, row / ALSO % 2 == 1);
-}
-
-fn tried(offer: Offer, row: u64) -> Offer {
-    let x = to(row);
-    let asked = offer.request;
-    let offered = offer.plan;
-    let request = with_request(asked, row / AT, x);
-    let plan = with_plan(offered, row / AT, x);
-    if row / QUIET % 2 == 1 {
-        return Offer { request, plan };
+impl Run {
+    fn follow(&self, out: &mut impl fmt::Write, start: Offer) -> Result<Offer, fmt::Error> {
+        let mut offer = self
+            .made
+            .iter()
+            .fold(start, |offer, change| offer.with(*change));
+        let mut stay = !self.made.is_empty();
+        for change in self.tried {
+            offer = offer.with(*change);
+            writeln!(out, "{change}{}: {}", as_well(stay), offer.judged())?;
+            stay = true;
+        }
+        Ok(offer)
     }
-    told(row, x);
-    both(check(request), judge(request, plan));
-    Offer { request, plan }
 }
 
-fn turn(start: Offer, before: Offer, row: u64) -> Offer {
-    if row / ALSO % 2 == 1 {
-        return tried(before, row);
-    }
-    tried(start, row)
-}
-
-// Begins with the plan that is worked out, and hands back what the last row left.
-pub fn all(heading: &[u8], request: Request, table: &[u64]) -> Offer {
-    text(heading);
+// Begins with the plan that is worked out, and hands back what the last run left.
+pub fn all(
+    out: &mut impl fmt::Write,
+    request: Request,
+    table: &[Run],
+) -> Result<Offer, fmt::Error> {
     let answer = planned(request);
-    let plan = answer.plan;
-    let start = Offer { request, plan };
-    let mut offer = start;
-    for k in 0..table.len() {
-        offer = turn(start, offer, table[k]);
+    let start = Offer {
+        request,
+        plan: answer.plan,
+    };
+    let mut last = start;
+    for run in table {
+        last = run.follow(out, start)?;
     }
-    offer
+    Ok(last)
 }

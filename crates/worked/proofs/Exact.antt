@@ -28,6 +28,8 @@ use Rattle.switch.proofs.Search.{same_row}
 use Rattle.switch.proofs.Sharing.{below_eight, Past, unused_input_total, unused_output_total, used_flow}
 use Rattle.switch.proofs.Small.{demand_small}
 use Rattle.worked.specs.Port.{input_port, output_port}
+use Rattle.worked.specs.Reason.{reason_from}
+use Rattle.worked.specs.declared.port.Port.{Port}
 use Rattle.worked.specs.Saturated.{capped, largest}
 use Rattle.worked.proofs.Bottlenecks.{product_below, product_exact, input_over_exact, output_over_exact, input_full_exact, output_full_exact, input_most_exact, output_most_exact}
 use Rattle.judging.specs.PlanWithin.{PlanWithin, said_reason}
@@ -43,6 +45,18 @@ level_holds full sum most x h = go (true_or_false (eqb sum full))
     go : (eqb sum full ≡ true) ⊎ (eqb sum full ≡ false) → leb (level_of full sum most) x ≡ (eqb sum full && leb most x)
     go (inl e) = rw e
     go (inr e) = rw e (lt-leb largest x h)
+
+-- So a reason by the level of the input is the reason by the input itself.
+pub reason_by_level : (port : Port) (capacity d b x : ℕ)
+    → reason_by (capped (d * b)) (level_of (capped (capacity * b)) port.sum port.most) x ≡ reason_from port capacity d b x
+reason_by_level port capacity d b x = go (true_or_false (ltb x (capped (d * b))))
+  where
+    go : (ltb x (capped (d * b)) ≡ true) ⊎ (ltb x (capped (d * b)) ≡ false)
+        → reason_by (capped (d * b)) (level_of (capped (capacity * b)) port.sum port.most) x ≡ reason_from port capacity d b x
+    go (inr e) = rw e
+    go (inl e) =
+        let below = ltb-true x (capped (d * b)) e in
+        rw (e, level_holds (capped (capacity * b)) port.sum port.most x (omega arith))
 
 ltb_not_leb : (x y : ℕ) → ltb x y ≡ not (leb y x)
 ltb_not_leb x y = go (le_or_lt y x)

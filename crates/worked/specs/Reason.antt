@@ -17,10 +17,6 @@ holds port capacity d b x =
 abbrev pub reason_from : Port → ℕ → ℕ → ℕ → ℕ → ℕ
 reason_from input capacity d b x = cond (eqb x (capped (d * b))) 0 (cond (holds input capacity d b x) 1 2)
 
--- The same, if it is known whether the input is full, its largest flow, and what the flow asks for over the base.
-abbrev pub reason_given : Bool → ℕ → ℕ → ℕ → ℕ
-reason_given full most asked x = cond (eqb x asked) 0 (cond (ltb x asked && full && leb most x) 1 2)
-
 -- The reason of a used cell whose input is known.
 abbrev pub reason_in : Port → ℕ → List ℕ → ℕ → List ℕ → ℕ → ℕ
 reason_in input capacity demands b xs c = reason_from input capacity (get_or demands c 0) b (get_or xs c 0)

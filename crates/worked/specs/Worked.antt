@@ -1,10 +1,9 @@
 -- Rows 10 to 15 as a program works them out in 64 bits, over all cells and eight ports on a side. For a request and a plan that
 -- have passed rows 4 to 8 they say what document 01's rows say; nobody else hears them.
-use Rattle.std.specs.Prelude.{ℕ, ◌*◌, ◌/◌, Bool, cond, not, ◌&&◌, List, [], ◌∷◌, eqb, leb, ltb, get_or, Option}
-use Rattle.std.specs.declared.option.Option.TheVariants.{Some, None}
+use Rattle.std.specs.Prelude.{ℕ, ◌*◌, ◌/◌, Bool, cond, not, ◌&&◌, List, [], ◌∷◌, eqb, leb, ltb, get_or}
 use Rattle.laws.specs.Lists.{list}
 use Rattle.switch.specs.Cells.{input, output, input_of, output_of}
-use Rattle.switch.specs.Rows.{Row, Found, at, nothing, row_verdict, verdict_of}
+use Rattle.switch.specs.Rows.{Row, row_verdict, verdict_of}
 use Rattle.switch.specs.Tables.{used_at}
 use Rattle.switch.specs.declared.plan.Plan.{Plan}
 use Rattle.switch.specs.declared.request.Request.{Request}
@@ -61,11 +60,6 @@ free_row m n asked xs entering leaving =
           && below (get_or asked c 0) (get_or entering (input_of c).0 0) (get_or leaving (output_of c).0 0) (get_or xs c 0);
       place = λ c. c;
     }
-
--- The cell with which the walk of row 14 is left, if it is.
-abbrev pub cell_found : Found → Option ℕ
-cell_found (at c) = Some c
-cell_found nothing = None
 
 -- Row 15: the reason of a flow, by the level of its input.
 abbrev pub reason_by : ℕ → ℕ → ℕ → ℕ

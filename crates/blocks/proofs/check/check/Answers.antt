@@ -1,13 +1,17 @@
--- One more word is one more step of the running sum.
-use Rattle.std.proofs.Common.{ap₂, add-one, ◌∙◌, refl}
-use Rattle.words.specs.Check.{taken, running}
+-- The words are folded into the sum.
+use Rattle.std.proofs.Common.{refl, rules, ◌∙◌}
+use Rattle.std.proofs.lemmas.Iterator.{YieldsList-from_range, YieldsList-from_map}
+use Rattle.std.proofs.lemmas.Iterator.Consumers.{fold_from_yields_List, YieldsList-at}
+use Rattle.words.specs.Check.{taken, word_in}
+use Rattle.blocks.proofs.Running.{running_folded}
 use Rattle.blocks.proofs.check.check.Goals as goal
 
-pub loop-i-init : goal.loop-i-init
-unfolding running
-loop-i-init c = refl
-
-pub loop-i-preserved : goal.loop-i-preserved
-unfolding running
-loop-i-preserved c =
-    rw add-one (c.taken-sum.ensures ∙ ap₂ taken c.loop-i.invariant c.word.ensures)
+pub returns : goal.returns
+returns c =
+    let a = c.args in
+    let w = word_in a.file.now a.block in
+    fold_from_yields_List _ (λ sum x. taken sum x) _ _ c.fold.ensures.ran
+    (YieldsList-from_map _ w (YieldsList-at c.map.ensures.source (YieldsList-from_range 0 127 127 refl refl))
+    c.map.ensures.closure (λ x r q k. search rules))
+    (λ s x b q k. search rules)
+    ∙ running_folded a.start w 127

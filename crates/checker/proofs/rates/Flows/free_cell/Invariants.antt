@@ -2,27 +2,21 @@
 use Rattle.std.proofs.Common.{◌≡◌, ◌+◌, ◌*◌}
 use Rattle.switch.proofs.Search.{Passed}
 use Rattle.worked.specs.Saturated.{ports}
-use Rattle.worked.specs.Worked.{free_row}
+use Rattle.checker.specs.Flows.{row_of_free}
 use Rattle.checker.proofs.rates.Flows.free_cell.Given as goal
 
 abbrev pub invariant-loop-v : goal.invariant-loop-v
 invariant-loop-v l =
     record {
       last : l.v-end ≡ ports l.self.request.now.n;
-      passed :
-          Passed
-          (free_row l.self.request.now.m l.self.request.now.n l.self.asked.now l.self.plan.now.numerators l.self.entering.now
-          l.self.leaving.now) (8 * l.u + l.v);
+      passed : Passed (row_of_free l.self) (8 * l.u + l.v);
     }
 
 abbrev pub invariant-loop-u : goal.invariant-loop-u
 invariant-loop-u l =
     record {
       last : l.u-end ≡ ports l.self.request.now.m;
-      passed :
-          Passed
-          (free_row l.self.request.now.m l.self.request.now.n l.self.asked.now l.self.plan.now.numerators l.self.entering.now
-          l.self.leaving.now) (8 * l.u);
+      passed : Passed (row_of_free l.self) (8 * l.u);
     }
 
 abbrev pub invariant-walk : goal.invariant-walk

@@ -1,0 +1,2 @@
+-- What the writer of a text asks for.
+pub mod Room
