@@ -28,52 +28,31 @@ parts_accept : (a b : Row) → a.cause ≡ b.cause → row_verdict (joined a b) 
     → (row_verdict a ≡ Accepted) × (row_verdict b ≡ Accepted)
 parts_accept a b same e = accepts_both (row_verdict a) (row_verdict b) (sym (joined_verdict a b same) ∙ e)
 
--- A row of five parts, of which two and two are asked together.
-by_twos : (a b c d e : Row) → a.cause ≡ b.cause → b.cause ≡ c.cause → c.cause ≡ d.cause
-    → row_verdict (joined a (joined b (joined c (joined d e)))) ≡ row_verdict (joined a (joined (joined b c) (joined d e)))
-by_twos a b c d e ab bc cd =
-    rw (
-      joined_verdict a (joined b (joined c (joined d e))) ab,
-      joined_verdict b (joined c (joined d e)) bc,
-      joined_verdict c (joined d e) cd,
-      joined_verdict a (joined (joined b c) (joined d e)) ab,
-      joined_verdict (joined b c) (joined d e) (bc ∙ cd),
-      joined_verdict b c bc,
-      or_else_assoc (row_verdict b) (row_verdict c) (row_verdict (joined d e)),
-    )
-
 -- The rows that are asked of a file before it is read.
 abbrev frame : List ℕ → List Row
 frame file = length_row 1536 file ∷ check_row 3 file ∷ kind_row (1 ∷ 2 ∷ 3 ∷ []) file ∷ []
 
 -- What a program asks of a file, and of a request and a plan that it has read there.
 module _ (file : List ℕ) (r : Request) (p : Plan) where
-  -- Row 7, from the request's spare words on: in the table's form, and half by half.
-  abbrev zeros_row : Row
-  zeros_row =
-      joined (spare_row 0 83 44 file)
-      (joined (half_not_zero r p 0) (joined (spare_row 1 75 52 file) (joined (half_not_zero r p 1) (spare_row 2 75 52 file))))
-
-  abbrev first_zeros : Row
-  first_zeros = joined (half_not_zero r p 0) (spare_row 1 75 52 file)
-
+  -- Row 7, from a half's cells on and from the request's spare words on.
   abbrev second_zeros : Row
   second_zeros = joined (half_not_zero r p 1) (spare_row 2 75 52 file)
 
+  abbrev first_zeros : Row
+  first_zeros = joined (half_not_zero r p 0) (joined (spare_row 1 75 52 file) second_zeros)
+
   abbrev zeros : Row
-  zeros = joined (spare_row 0 83 44 file) (joined first_zeros second_zeros)
+  zeros = joined (spare_row 0 83 44 file) first_zeros
 
   -- The rows that are asked together.
   abbrev numbers : List Row
-  numbers = ports_row r ∷ capacity_row r ∷ demand_row r ∷ joined (not_zero_row r) zeros_row ∷ []
+  numbers = ports_row r ∷ capacity_row r ∷ demand_row r ∷ joined (not_zero_row r) zeros ∷ []
 
   abbrev bases : List Row
   bases = base_row p.base ∷ base_differs_row file ∷ []
 
   numbers_in_order : verdict_of numbers ≡ or_else (request_verdict r) (row_verdict zeros)
-  numbers_in_order =
-      verdict_joined (not_zero_row r) zeros_row (ports_row r ∷ capacity_row r ∷ demand_row r ∷ []) refl
-      ∙ ap (or_else (request_verdict r)) (by_twos (spare_row 0 83 44 file) (half_not_zero r p 0) (spare_row 1 75 52 file) (half_not_zero r p 1) (spare_row 2 75 52 file) refl refl refl)
+  numbers_in_order = verdict_joined (not_zero_row r) zeros (ports_row r ∷ capacity_row r ∷ demand_row r ∷ []) refl
 
   abbrev format : Verdict
   format = or_else (verdict_of (frame file)) (or_else (or_else (request_verdict r) (row_verdict zeros)) (verdict_of bases))
@@ -89,9 +68,11 @@ module _ (file : List ℕ) (r : Request) (p : Plan) where
   within e =
       let (asked, based) = accepts_both (or_else (request_verdict r) (row_verdict zeros)) _ (accepts_both (verdict_of (frame file)) _ e).1 in
       let (own, none) = accepts_both (request_verdict r) (row_verdict zeros) asked in
-      let (firsts, seconds) = parts_accept first_zeros second_zeros refl (parts_accept (spare_row 0 83 44 file) (joined first_zeros second_zeros) refl none).1 in
-      let first = (parts_accept (half_not_zero r p 0) (spare_row 1 75 52 file) refl firsts).0 in
-      let second = (parts_accept (half_not_zero r p 1) (spare_row 2 75 52 file) refl seconds).0 in
+      let (first, more) =
+      parts_accept (half_not_zero r p 0) (joined (spare_row 1 75 52 file) second_zeros) refl
+      (parts_accept (spare_row 0 83 44 file) first_zeros refl none).1 in
+      let second =
+      (parts_accept (half_not_zero r p 1) (spare_row 2 75 52 file) refl (parts_accept (spare_row 1 75 52 file) second_zeros refl more).1).0 in
       let base = (accepts_both (row_verdict (base_row p.base)) _ based).0 in
       (within_of_accepted r own, plan_within_of_accepted r p first second base)
 

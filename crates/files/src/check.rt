@@ -18,7 +18,7 @@ use switch::verdict::Verdict;
 
 // Rows 4 to 15, of a file's blocks and of the request and the plan that were read there.
 fn content_rows(file: &[u8], request: &Request, plan: &Plan) -> Verdict
-    ensures { result ≡ or_else (request_verdict request.now) (or_else (row_verdict (joined (spare_row 0 83 44 file.now) (joined (joined (half_not_zero request.now plan.now 0) (spare_row 1 75 52 file.now)) (joined (half_not_zero request.now plan.now 1) (spare_row 2 75 52 file.now))))) (or_else (verdict_of (base_row (base_in file.now 0) ∷ base_differs_row file.now ∷ [])) (rates_worked request.now plan.now))) }
+    ensures { result ≡ or_else (request_verdict request.now) (or_else (row_verdict (joined (spare_row 0 83 44 file.now) (joined (half_not_zero request.now plan.now 0) (joined (spare_row 1 75 52 file.now) (joined (half_not_zero request.now plan.now 1) (spare_row 2 75 52 file.now)))))) (or_else (verdict_of (base_row (base_in file.now 0) ∷ base_differs_row file.now ∷ [])) (rates_worked request.now plan.now))) }
 {
     check_request(*request)?;
     zeros_row(file, request, plan)?;

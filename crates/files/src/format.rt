@@ -13,23 +13,16 @@ use switch::plan::{Half, Plan};
 use switch::request::Request;
 use switch::verdict::{Cause, Verdict, refused};
 
-// Row 7 in the block of a half: its unused cells, and then its spare words.
-#[tactic(auto, using(switch::proofs::Rows::joined_left, switch::proofs::Rows::joined_right))]
-fn half_zeros(file: &[u8], request: &Request, plan: &Plan, half: Half) -> Verdict
-    ensures { result ≡ row_verdict (joined (half_not_zero request.now plan.now (half_number half)) (spare_row (1 + half_number half) 75 52 file.now)) }
-{
-    unused(request, plan, half)?;
-    spare_row(file, 1 + half.number(), 75..127)
-}
-
 // Row 7, from the request's spare words on.
 #[tactic(auto, using(switch::proofs::Rows::joined_left, switch::proofs::Rows::joined_right))]
 pub fn zeros_row(file: &[u8], request: &Request, plan: &Plan) -> Verdict
-    ensures { result ≡ row_verdict (joined (spare_row 0 83 44 file.now) (joined (joined (half_not_zero request.now plan.now 0) (spare_row 1 75 52 file.now)) (joined (half_not_zero request.now plan.now 1) (spare_row 2 75 52 file.now)))) }
+    ensures { result ≡ row_verdict (joined (spare_row 0 83 44 file.now) (joined (half_not_zero request.now plan.now 0) (joined (spare_row 1 75 52 file.now) (joined (half_not_zero request.now plan.now 1) (spare_row 2 75 52 file.now))))) }
 {
-    spare_row(file, 0, 83..127)?;
-    half_zeros(file, request, plan, Half::First)?;
-    half_zeros(file, request, plan, Half::Second)
+    spare_row(file, 0, 83, 44)?;
+    unused(request, plan, Half::First)?;
+    spare_row(file, 1, 75, 52)?;
+    unused(request, plan, Half::Second)?;
+    spare_row(file, 2, 75, 52)
 }
 
 // Rows 8 and 9.

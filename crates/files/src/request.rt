@@ -21,7 +21,7 @@ fn all_rows(file: &[u8]) -> Verdict
 {
     frame_rows(file, &[1])?;
     check(request_in(file))?;
-    spare_row(file, 0, 83..127)
+    spare_row(file, 0, 83, 44)
 }
 
 // Reads a request file. Any bytes could be read, since past their end there is 0 to read; but what a refused file holds is not

@@ -6,7 +6,6 @@ ghost use Rattle.formats.specs.FileRows.{length_row, check_row, kind_row, spare_
 
 use blocks::check::{sealed, start_of};
 use blocks::word::word;
-use std::ops::Range;
 use switch::verdict::{Cause, Verdict, refused};
 
 #[tactic(auto, unfolding(switch::specs::Rows::row_verdict, switch::specs::Rows::first_from))]
@@ -69,14 +68,14 @@ pub fn frame_rows<const N: usize>(file: &[u8], kinds: &[u32; N]) -> Verdict
     kind_row(file, kinds)
 }
 
-// The spare words of a block.
+// The spare words of a block: `count` of them, from word `from` on. Not a range of words: the check of a plan file that walks one
+// costs 4 in 100 more.
 #[tactic(auto, using(crate::proofs::Refusing::refuses_there, switch::proofs::Search::row_accepts))]
-pub fn spare_row(file: &[u8], block: u32, words: Range<u32>) -> Verdict
-    requires { words.start ≤ words.end }
-    ensures { result ≡ row_verdict (spare_row block words.start (words.end - words.start) file.now) }
+pub fn spare_row(file: &[u8], block: u32, from: u32, count: u32) -> Verdict
+    ensures { result ≡ row_verdict (spare_row block from count file.now) }
 {
-    for i in words {
-        let place = 128 * u64::from(block) + u64::from(i);
+    for i in 0..count {
+        let place = 128 * u64::from(block) + (u64::from(from) + u64::from(i));
         if 0 < word(file, place) {
             return refused(Cause::NotZero, place);
         }
