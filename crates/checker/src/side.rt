@@ -18,7 +18,8 @@ use switch::verdict::{Cause, Verdict};
 use worked::port::Port;
 use worked::side::Weighed;
 
-// A table of capacities or demands, over the base.
+// A table of capacities or demands, over the base. (This table and the next two are filled by loops: no proof was found of
+// `array::from_fn` with a closure that captures two values.)
 pub fn scaled<const N: usize>(table: &[u32; N], base: u64) -> [u64; N]
     ensures { result ≡ scaled N base table.now }
 {
