@@ -50,7 +50,8 @@ fn worked_out(request: &Request) -> Plan
     let mut numerators = [0; 64];
     let filled = fill(&flows, capacities(request), &mut numerators);
     let base = reduce(filled, &mut numerators);
-    let reasons = reasons(request, base, &numerators);
+    let (m, n) = (request.m, request.n);
+    let reasons = reasons(m, n, &request.inputs, &request.demands, base, &numerators);
     Plan {
         base,
         numerators,

@@ -135,7 +135,7 @@ pub record SharesCalls : Type 2 where
   pub level : Settles Level.Asked Level.Post (λ κ z e. z) (λ κ (full, (port, _)). level_of full port.sum port.most)
   pub reason_by : Settles ReasonBy.Asked ReasonBy.Post (λ κ z e. z) (λ κ (asked, (entering, (x, _))). reason_by asked entering x)
   pub reasons : Settles Reasons.Asked Reasons.Post (λ κ z e. z)
-      (λ κ (request, (b, (xs, _))). reasons_at request.now.m request.now.n request.now.inputs request.now.demands b xs.now)
+      (λ κ (m, (n, (inputs, (ds, (b, (xs, _)))))). reasons_at m n inputs.now ds.now b xs.now)
   pub divisor : Settles Divisor.Asked Divisor.Post (λ κ z e. z) (λ κ (x, (y, _)). gcd x y)
   pub common_divisor : Settles CommonDivisor.Asked CommonDivisor.Post (λ κ z e. z) (λ κ (b, (xs, _)). gcd_of b xs.now)
   pub reduce : Settles Reduce.Asked Reduce.Post (λ κ z e. z) (λ κ (b, (xs, _)). reduced_base b xs.now)

@@ -1,5 +1,5 @@
 // The reasons of a plan's cells.
-ghost use Rattle.std.specs.Prelude.{◌≡◌, ◌*◌, ◌<◌, get_or};
+ghost use Rattle.std.specs.Prelude.{◌≡◌, ◌*◌, ◌<◌};
 ghost use Rattle.worked.specs.Overwritten.{overwritten};
 ghost use Rattle.worked.specs.Port.{input_port};
 ghost use Rattle.worked.specs.Reason.{holds, reason_from, reason_in, reasons_at};
@@ -8,8 +8,8 @@ ghost use Rattle.worked.specs.Worked.{level_of, reason_by};
 
 use crate::arithmetic::times;
 use crate::port::input_port;
+use switch::entry::entry;
 use switch::port::{Input, Output, cell};
-use switch::request::Request;
 use worked::port::Port;
 
 // Reasons are these numbers and no enum: the format of a plan's file fixes them, and a file may hold any byte in their place.
@@ -59,27 +59,44 @@ pub fn reason(input: Port, capacity: u32, demand: u32, base: u64, x: u64) -> u8
     reason_by(times(demand, base), entering, x)
 }
 
-// Fills the used cells of input `u`.
-fn fill_row(request: &Request, base: u64, numerators: &[u64; 64], u: Input, table: &mut [u8; 64])
+// Fills the used cells of input `u`. The tables may be of any length, as they may be in `reasons`.
+fn fill_row(
+    n: u32,
+    capacity: u32,
+    demands: &[u32],
+    base: u64,
+    numerators: &[u64],
+    u: Input,
+    table: &mut [u8; 64],
+)
     requires { u.0 < 8 }
-    ensures { table.new ≡ overwritten (8 * u.0) (ports request.now.n) (reason_in (input_port request.now.n numerators.now u) (get_or request.now.inputs u.0 0) request.now.demands base numerators.now) table.old }
+    ensures { table.new ≡ overwritten (8 * u.0) (ports n) (reason_in (input_port n numerators.now u) capacity demands.now base numerators.now) table.old }
 {
-    let input = input_port(request.n, numerators, u);
-    let entering = level(times(request.inputs[u.0 as usize], base), input);
-    for v in 0..request.n.min(8) {
-        let c = cell(u, Output(v)) as usize;
-        let asked = times(request.demands[c], base);
-        table[c] = reason_by(asked, entering, numerators[c]);
+    let port = input_port(n, numerators, u);
+    let entering = level(times(capacity, base), port);
+    for v in 0..n.min(8) {
+        let c = cell(u, Output(v));
+        let asked = times(entry(demands, c, 0), base);
+        table[c as usize] = reason_by(asked, entering, entry(numerators, c, 0));
     }
 }
 
-// Only used cells are walked over: the others keep the 0 that the table starts with, which is their reason.
-pub fn reasons(request: &Request, base: u64, numerators: &[u64; 64]) -> [u8; 64]
-    ensures { result ≡ reasons_at request.now.m request.now.n request.now.inputs request.now.demands base numerators.now }
+// Only used cells are walked over: the others keep the 0 that the table starts with, which is their reason. (No `&Request`: what is
+// promised of this call is an answer for tables of any length.)
+pub fn reasons(
+    m: u32,
+    n: u32,
+    inputs: &[u32],
+    demands: &[u32],
+    base: u64,
+    numerators: &[u64],
+) -> [u8; 64]
+    ensures { result ≡ reasons_at m n inputs.now demands.now base numerators.now }
 {
     let mut table = [MET; 64];
-    for u in 0..request.m.min(8) {
-        fill_row(request, base, numerators, Input(u), &mut table);
+    for u in 0..m.min(8) {
+        let capacity = entry(inputs, u64::from(u), 0);
+        fill_row(n, capacity, demands, base, numerators, Input(u), &mut table);
     }
     table
 }

@@ -11,7 +11,7 @@ unfolding overwritten
 loop-v-init c =
     record {
       last = c.min-v-end.ensures;
-      entering = c.level-entering.ensures ∙ rw (c.times.ensures, c.input_port-input.ensures);
+      entering = c.level-entering.ensures ∙ rw (c.times.ensures, c.input_port-port.ensures);
       filled = refl;
     }
 
@@ -19,7 +19,6 @@ pub loop-v-preserved : goal.loop-v-preserved
 loop-v-preserved c =
     let at = c.loop-v in
     let a = c.args in
-    let r = a.request.now in
     let cell = 8 * a.u.0 + at.v in
     record {
       last = at.invariant.last;
@@ -27,8 +26,8 @@ loop-v-preserved c =
       filled =
           rw c.cell-c.ensures
           (ap₂ (λ t x. set t (8 * a.u.0 + at.v) x) at.invariant.filled
-          (c.reason_by.ensures ∙ rw (c.times-asked.ensures, c.cell-c.ensures, at.invariant.entering)
-          (reason_by_level (input_port r.n a.numerators.now a.u) (get_or r.inputs a.u.0 0) (get_or r.demands cell 0) a.base
+          (c.reason_by.ensures ∙ rw (c.times-asked.ensures, c.entry.ensures, c.entry-in-loop-v.ensures, c.cell-c.ensures, at.invariant.entering)
+          (reason_by_level (input_port a.n a.numerators.now a.u) a.capacity (get_or a.demands.now cell 0) a.base
           (get_or a.numerators.now cell 0)))
           ∙ overwritten_more _ at.v _ _);
     }

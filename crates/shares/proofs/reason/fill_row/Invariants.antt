@@ -1,5 +1,5 @@
 -- The loop puts in one cell's reason after another.
-use Rattle.std.proofs.Common.{◌≡◌, ◌*◌, get_or}
+use Rattle.std.proofs.Common.{◌≡◌, ◌*◌}
 use Rattle.worked.specs.Overwritten.{overwritten}
 use Rattle.worked.specs.Port.{input_port}
 use Rattle.worked.specs.Reason.{reason_in}
@@ -9,14 +9,14 @@ use Rattle.shares.proofs.reason.fill_row.Given as goal
 
 abbrev pub invariant-loop-v : goal.invariant-loop-v
 invariant-loop-v l = record {
-  last : l.v-end ≡ ports l.request.n;
+  last : l.v-end ≡ ports l.n;
   entering :
       l.entering
-      ≡ level_of (capped (get_or l.request.inputs l.u.0 0 * l.base)) (input_port l.request.n l.numerators l.u).sum
-      (input_port l.request.n l.numerators l.u).most;
+      ≡ level_of (capped (l.capacity * l.base)) (input_port l.n l.numerators l.u).sum
+      (input_port l.n l.numerators l.u).most;
   filled :
       l.table
       ≡ overwritten (8 * l.u.0) l.v
-      (reason_in (input_port l.request.n l.numerators l.u) (get_or l.request.inputs l.u.0 0) l.request.demands l.base l.numerators)
+      (reason_in (input_port l.n l.numerators l.u) l.capacity l.demands l.base l.numerators)
       l.initial.table;
 }

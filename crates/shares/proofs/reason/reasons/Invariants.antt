@@ -7,9 +7,9 @@ use Rattle.shares.proofs.reason.reasons.Given as goal
 
 abbrev pub invariant-loop-u : goal.invariant-loop-u
 invariant-loop-u l = record {
-  last : l.u-end ≡ ports l.request.m;
+  last : l.u-end ≡ ports l.m;
   filled :
       l.table
-      ≡ list (8 * l.u) (reason_at l.request.m l.request.n l.request.inputs l.request.demands l.base l.numerators)
+      ≡ list (8 * l.u) (reason_at l.m l.n l.inputs l.demands l.base l.numerators)
       ++ drop (8 * l.u) (replicate 64 0);
 }
