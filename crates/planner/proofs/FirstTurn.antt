@@ -12,6 +12,8 @@ use Rattle.laws.proofs.Lists.{cells-list, length-list}
 use Rattle.fairness.specs.Filling.{start}
 use Rattle.fairness.proofs.Filling.{between_at_start}
 use Rattle.fairness.specs.Problem.{Problem}
+use Rattle.planner.specs.Limits.{problem}
+use Rattle.planner.specs.Tables.{Roomy, Shared}
 use Rattle.planner.specs.Engine.{sharing, state_of, Engaged, Modest, Started, start_stage}
 use Rattle.planner.specs.declared.flows.Flows.{Flows}
 use Rattle.planner.specs.declared.tables.Tables.{Tables}
@@ -59,3 +61,12 @@ module _ (f : Flows) (capacities : List ℕ) (modest : Modest (sharing f capacit
 
       unwaiting : (c : ℕ) → cells f.minima.now c ≡ 0 → start_stage f.demands.now f.minima.now c ≢ 22
       unwaiting c none q = neither (ltb 0 (cells f.demands.now c)) (rw none at q)
+
+-- Cited by no function today: the capacities have room for all minima, and no limit has too many weights.
+module _ (cards : Bool) (capacities demands minima weights : List ℕ) (heaviest : ℕ)
+    (modest : Modest (problem cards capacities demands minima weights) heaviest) where
+  pub room_start : length capacities ≡ 20 → Roomy cards (cells minima) capacities
+  room_start long = record { long = long; each = λ l h. modest.sound.fits l h }
+
+  pub shared_start : Shared cards weights
+  shared_start = record { each = modest.shares }

@@ -8,7 +8,7 @@ use Rattle.laws.proofs.Lists.{list_same}
 use Rattle.fairness.specs.Fairness.{Fair}
 use Rattle.fairness.specs.Filling.{next, over}
 use Rattle.fairness.proofs.Filling.{ended_of_none}
-use Rattle.planner.specs.Sizes.{most_base, most_high}
+use Rattle.planner.specs.Sizes.{most_base, most_high, most_parts}
 use Rattle.planner.specs.Limits.{limits_of, problem}
 use Rattle.planner.specs.Tables.{Bounded}
 use Rattle.planner.specs.Engine.{sharing, standing, state_of, state_at, rates_at, Engaged, LimitsSmall, Modest}
@@ -44,6 +44,13 @@ module _ {f : Flows} {capacities : List ℕ} {at : Filling} (modest : Modest (sh
         left = left_small f.cards capacities d m w at.base at.tables.stages at.levels modest now.between now.kept;
         parts = parts_small f.cards capacities d m w at.base at.tables.stages at.levels modest now.kept;
       }
+
+  -- Cited by no function today: the two halves by themselves.
+  pub left_now : Bounded (limits_of f.cards) most_high at.tables.left
+  left_now = limits_now.left
+
+  pub parts_now : Bounded (limits_of f.cards) most_parts at.tables.parts
+  parts_now = limits_now.parts
 
   pub levels_now : Bounded 20 most_high at.levels
   levels_now = record { each = λ i hi. omega (arith, now.high i hi, base_now) }

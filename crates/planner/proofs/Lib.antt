@@ -1,6 +1,8 @@
 -- What the planner's proofs share.
+pub mod Products
 pub mod Passing
 pub mod Lowering
+pub mod LoweredAt
 pub mod Areas
 pub mod Walks
 pub mod Meeting

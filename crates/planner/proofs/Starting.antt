@@ -7,17 +7,45 @@ use mathlib.Core.Logic.{◌⊎◌, inl, inr}
 use native.Mathlib.Omega.{arith}
 use native.Mathlib.Nat.{eq-zero-or-pos}
 use lib.Dec.{eqb, ltb}
-use lib.ListN.{length, replicate, length-replicate, get_or-replicate}
-use borrow.Author.Tests.{lt-ltb}
+use lib.ListN.{length, set, replicate, length-replicate, get_or-replicate}
+use borrow.Author.Tests.{lt-ltb, le-ltb}
 use Rattle.laws.specs.Lists.{cells}
 use Rattle.laws.proofs.Lists.{cells-list}
 use Rattle.laws.proofs.Search.{le_or_lt, true_not_false}
 use Rattle.fairness.specs.Total.{on, total}
 use Rattle.fairness.proofs.Sums.{on_at_most, total-le, total_same, total_next, total_up}
 use Rattle.planner.specs.Limits.{through, problem}
-use Rattle.planner.specs.Tables.{Holds, Lowered, Shared, Added}
-use Rattle.planner.specs.Engine.{rising_at, start_stage, start_weight, Unheld}
+use Rattle.planner.specs.Tables.{Holds, Lowered, Begun, Shared, Added}
+use Rattle.planner.specs.Engine.{rising_at, start_stage, first_stage, first_weight, start_weight, Unheld}
+use Rattle.planner.specs.declared.tables.Tables.{Tables}
 use Rattle.planner.proofs.Stages.{start_stages, limit_small}
+use Rattle.planner.proofs.Walks.{lowered_none}
+
+-- Cited by no function today: one flow begins. It waits, it rises, or it asks for nothing.
+module _ {cards : Bool} {c : ℕ} (demand minimum weight : ℕ) {t : Tables} where
+  pub begun_waiting : {left : List ℕ} → 0 < minimum → Lowered cards c minimum t.left left → length t.parts ≡ 20
+      → Begun cards c (first_stage demand minimum) minimum (first_weight demand minimum weight) t
+      (record t { stages = set t.stages c 22; left = left })
+  begun_waiting low taken long =
+      rw (lt-ltb 0 minimum low) (record { marked = refl; taken = taken; risen = lowered_none cards c 0 t.parts long refl })
+
+  pub begun_rising : {parts : List ℕ} → minimum ≤ 0 → 0 < demand → length t.left ≡ 20 → Lowered cards c weight parts t.parts
+      → Begun cards c (first_stage demand minimum) minimum (first_weight demand minimum weight) t
+      (record t { stages = set t.stages c 20; parts = parts })
+  begun_rising none asks long given =
+      rw (le-ltb 0 minimum none, lt-ltb 0 demand asks)
+      (record { marked = refl; taken = lowered_none cards c minimum t.left long (omega arith); risen = given })
+
+  pub begun_silent : minimum ≤ 0 → demand ≤ 0 → length t.left ≡ 20 → length t.parts ≡ 20
+      → Begun cards c (first_stage demand minimum) minimum (first_weight demand minimum weight) t
+      (record t { stages = set t.stages c 21 })
+  begun_silent none silent long_l long_p =
+      rw (le-ltb 0 minimum none, le-ltb 0 demand silent)
+      (record {
+        marked = refl;
+        taken = lowered_none cards c minimum t.left long_l (omega arith);
+        risen = lowered_none cards c 0 t.parts long_p refl;
+      })
 
 -- What rises through the limits, from nothing.
 pub zeros_long : {parts : List ℕ} → parts ≡ replicate 20 0 → length parts ≡ 20

@@ -7,16 +7,35 @@ use mathlib.Core.Logic.{◌⊎◌, inl, inr}
 use native.Mathlib.Omega.{arith}
 use native.Mathlib.Nat.{le_dest}
 use lib.ListN.{length, set, take, drop, length-set, length-append, length-drop}
-use lib.Seq.{get_or-set_same, get_or-set_other, ext_get_or}
+use lib.Seq.{get_or-set_same, get_or-set_other, set-get_or, ext_get_or}
 use Rattle.laws.specs.Lists.{cells, list}
 use Rattle.laws.proofs.Lists.{cells-list, length-list}
 use Rattle.laws.proofs.Search.{le_or_lt, eq_or_not}
 use Rattle.fairness.specs.Total.{on, total}
-use Rattle.fairness.proofs.Sums.{total_next, total_up, total_past}
-use Rattle.planner.specs.Limits.{through}
+use Rattle.fairness.proofs.Sums.{on_nothing, total_next, total_up, total_past}
+use Rattle.planner.specs.Limits.{limits_of, through}
 use Rattle.std.proofs.lemmas.List.{get_or_append_left, get_or-append_right, get_or-take, get_or-drop, length-take-le}
-use Rattle.planner.specs.Tables.{Covers, Lowered, Halted, Roomy, Scaled, Taken, Marked, Swept}
+use Rattle.planner.specs.Tables.{Covers, Lowered, Halted, Roomy, RoomyBy, Scaled, Taken, Marked, Swept}
 use Rattle.planner.specs.declared.tables.Tables.{Tables}
+
+-- Cited by no function today: a flow that is given nothing changes no limit, and one that keeps its stage changes nothing.
+pub lowered_none : (cards : Bool) (c x : ℕ) (t : List ℕ) → length t ≡ 20 → x ≡ 0 → Lowered cards c x t t
+lowered_none cards c x t long e =
+    record { long = (long, long); each = λ l h. omega (arith, on_nothing (through l c) x e) }
+
+pub halted_marked : {cards : Bool} {c stage x weight : ℕ} {t : Tables} {stages : List ℕ} → stages ≡ set t.stages c stage → x ≡ 0
+    → weight ≡ 0 → length t.left ≡ 20 → length t.parts ≡ 20 → Halted cards c stage x weight t (record t { stages = stages })
+halted_marked {cards} {c} {stage} {x} {weight} {t} e ex ew long_l long_p =
+    record {
+      marked = e;
+      taken = lowered_none cards c x t.left long_l ex;
+      freed = lowered_none cards c weight t.parts long_p ew;
+    }
+
+pub halted_none : {cards : Bool} {c stage x weight : ℕ} {t : Tables} → stage ≡ cells t.stages c → x ≡ 0 → weight ≡ 0
+    → length t.left ≡ 20 → length t.parts ≡ 20 → Halted cards c stage x weight t t
+halted_none {cards} {c} {stage} {x} {weight} {t} e =
+    halted_marked (sym (set-get_or t.stages c 0) ∙ ap (set t.stages c) (sym e))
 
 module _ (cards : Bool) (x : ℕ → ℕ) (old new : List ℕ) where
   pub taken_none : length old ≡ 20 → Taken cards 0 x old old
@@ -151,3 +170,27 @@ scaled_front count k table front few long by =
   where
     front_long : length (take count table) ≡ count
     front_long = length-take-le count table (omega arith)
+
+-- Cited by no function today: one more entry of a table of the limits is multiplied, and what has room once all are.
+pub scaled_none : (k : ℕ) (t : List ℕ) → length t ≡ 20 → Scaled 0 k t t
+scaled_none k t long = record { long = long; each = λ l h. absurd (omega arith); rest = λ l h. refl }
+
+pub scaled_next : (i k : ℕ) (old new : List ℕ) → i < 20 → Scaled i k old new → Scaled (i + 1) k old (set new i (cells new i * k))
+scaled_next i k old new low so_far =
+    record {
+      long = length-set new i (cells new i * k) ∙ so_far.long;
+      each = λ l h. go l h (eq_or_not l i);
+      rest = λ l h.
+          let other : l ≡ i → ⊥ = λ e. omega arith in
+          get_or-set_other new i l (cells new i * k) 0 other ∙ so_far.rest l (omega arith);
+    }
+  where
+    go : (l : ℕ) → l < i + 1 → (l ≡ i) ⊎ (l ≡ i → ⊥) → cells (set new i (cells new i * k)) l ≡ cells old l * k
+    go l h (inl e) =
+        rw e (get_or-set_same new i (cells new i * k) 0 (rw so_far.long low) ∙ ap (λ x. x * k) (so_far.rest i (omega arith)))
+    go l h (inr n) = get_or-set_other new i l (cells new i * k) 0 n ∙ so_far.each l (omega arith)
+
+pub roomy_grown : (cards : Bool) (k : ℕ) (x : ℕ → ℕ) (old new : List ℕ) → RoomyBy cards k x old → Scaled (limits_of cards) k old new
+    → Roomy cards x new
+roomy_grown cards k x old new room grown =
+    record { long = grown.long; each = λ l h. rw (grown.each l h) (room.each l h) }

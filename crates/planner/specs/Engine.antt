@@ -104,9 +104,13 @@ pub record Started (f : Flows) (held : Bool) (old new : Tables) : Type 0 where
 abbrev pub halted_stage : ℕ → ℕ → ℕ
 halted_stage l stage = cond (eqb stage 20) l (cond (eqb stage 22) 23 stage)
 
--- A rising flow has its demand at or below the level `high` / `parts`; and the same of the flow of a cell.
+-- A rising flow has its demand at or below the level `high` / `parts`; and the same of a flow by its cell. `met_in`
+-- stands in no contract today.
 abbrev pub met_by : ℕ → ℕ → ℕ → ℕ → ℕ → ℕ → Bool
 met_by base high parts demand weight stage = eqb stage 20 && leb (demand * (base * parts)) (high * weight)
+
+abbrev pub met_in : ℕ → Level → ℕ → ℕ → List ℕ → ℕ → Bool
+met_in base level demand weight stages c = met_by base level.high level.parts demand weight (cells stages c)
 
 abbrev pub met_at : ℕ → ℕ → ℕ → List ℕ → List ℕ → List ℕ → ℕ → Bool
 met_at base high parts demands weights stages c =
