@@ -3,3 +3,4 @@ pub mod Checked
 pub mod Made
 pub mod Reading
 pub mod Refusing
+pub mod Saved
