@@ -2,7 +2,6 @@
 use Rattle.std.proofs.Common.{◌≡◌, ℕ, List, [], ◌∷◌, refl, sym, ◌∙◌, ap}
 use Rattle.switch.specs.RequestRows.{ports_row, capacity_row, demand_row, not_zero_row, request_verdict}
 use Rattle.switch.specs.Rows.{row_verdict, or_else, verdict_of}
-use Rattle.switch.specs.declared.verdict.Verdict.{Verdict}
 use Rattle.switch.proofs.Rows.{verdict_joined, verdict_append}
 use Rattle.formats.specs.FileRows.{length_row, check_row, kind_row, spare_row}
 use Rattle.formats.specs.RequestFile.{request_in, read_verdict}

@@ -15,17 +15,17 @@ use switch::request::Request;
 // What a block holds in its words 0 to 126. The rules below test one end after the other: from a `match` on the word's number the
 // compiler makes a table of jumps, and a block costs half as much again to write.
 pub trait Content {
-    ghost said: { Self → ℕ → ℕ };
+    ghost word: { Self → ℕ → ℕ };
 
-    fn said(&self, i: u64) -> u32
-        ensures { result ≡ said self.now i };
+    fn word(&self, i: u64) -> u32
+        ensures { result ≡ word self.now i };
 }
 
 impl Content for Request {
-    ghost said = { request_word };
+    ghost word = { request_word };
 
     #[tactic(auto, unfolding(formats::specs::RequestFile::request_word))]
-    fn said(&self, i: u64) -> u32 {
+    fn word(&self, i: u64) -> u32 {
         if i < 1 {
             1
         } else if i < 2 {
@@ -65,11 +65,11 @@ fn high(x: u64) -> u32
 }
 
 impl Content for PlanHalf<'_> {
-    ghost said = { λ h. plan_word h.plan.now (half_number h.half) };
+    ghost word = { λ h. plan_word h.plan.now (half_number h.half) };
 
     // Reasons are bytes, so that word k of them is four reasons.
     #[tactic(auto, unfolding(formats::specs::PlanFile::plan_word, words::specs::Words::word_at))]
-    fn said(&self, i: u64) -> u32 {
+    fn word(&self, i: u64) -> u32 {
         let half = u64::from(self.half.number());
         if i < 1 {
             2 + self.half.number()
@@ -91,11 +91,11 @@ impl Content for PlanHalf<'_> {
 // Writes a block of a file that has room for it.
 pub fn write_block<C: Content>(content: &C, block: u32, buffer: &mut [u8])
     requires { 512 * block + 512 ≤ length buffer.old }
-    ensures { buffer.new ≡ take (512 * block) buffer.old ++ (block_of (start_of block) (C.said content.now) ++ drop (512 * (block + 1)) buffer.old) }
+    ensures { buffer.new ≡ take (512 * block) buffer.old ++ (block_of (start_of block) (C.word content.now) ++ drop (512 * (block + 1)) buffer.old) }
 {
     let from = 128 * u64::from(block);
     for i in 0..127 {
-        put(buffer, from + i, content.said(i));
+        put(buffer, from + i, content.word(i));
     }
     seal(start_of(block), buffer, block);
 }

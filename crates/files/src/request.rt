@@ -3,7 +3,7 @@ ghost use Rattle.std.specs.Prelude.{◌≡◌, [], ◌∷◌};
 ghost use Rattle.switch.specs.RequestRows.{request_verdict};
 ghost use Rattle.switch.specs.Rows.{row_verdict, or_else, verdict_of};
 ghost use Rattle.formats.specs.FileRows.{length_row, check_row, kind_row, spare_row};
-ghost use Rattle.formats.specs.RequestFile.{request_in, read_verdict, request_read, request_written};
+ghost use Rattle.formats.specs.RequestFile.{request_in, request_read, request_written};
 ghost use Rattle.formats.specs.Writing.{write_verdict};
 
 use crate::layout::write_block;

@@ -1,5 +1,5 @@
 // The rows of the refusal table that speak of bytes: 1 to 3, the spare words of 7, and 16.
-ghost use Rattle.std.specs.Prelude.{◌≡◌, ◌-◌, ◌*◌, ◌<◌, ◌≤◌, [], ◌∷◌, length};
+ghost use Rattle.std.specs.Prelude.{◌≡◌, ◌*◌, ◌<◌, ◌≤◌, [], ◌∷◌, length};
 ghost use Rattle.switch.specs.Rows.{row_verdict, verdict_of};
 ghost use Rattle.switch.specs.declared.verdict.Verdict.TheVariants.{Accepted};
 ghost use Rattle.formats.specs.FileRows.{length_row, check_row, kind_row, spare_row, room_row};

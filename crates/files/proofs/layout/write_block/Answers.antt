@@ -13,9 +13,9 @@ loop-i-preserved g c =
     let a = c.args in
     record {
       inside = c.put.ensures
-          ∙ ap₂ (λ b x. with_word b (128 * c.from-from.result + c.loop-i.i) x) c.loop-i.invariant.inside c.said.ensures
+          ∙ ap₂ (λ b x. with_word b (128 * c.from-from.result + c.loop-i.i) x) c.loop-i.invariant.inside c.word.ensures
           ∙ rw c.from-from.ensures (laid_in_more a.buffer.now a.block c.requires _ c.loop-i.i (omega arith));
-      fit = below_more _ c.loop-i.i c.loop-i.invariant.fit (subst (λ (x : ℕ). x < 4_294_967_296) c.said.ensures c.said.type_inv);
+      fit = below_more _ c.loop-i.i c.loop-i.invariant.fit (subst (λ (x : ℕ). x < 4_294_967_296) c.word.ensures c.word.type_inv);
     }
 
 pub returns : goal.returns
