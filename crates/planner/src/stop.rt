@@ -13,7 +13,6 @@ use crate::level::Level;
 use crate::limits::take;
 use crate::stage::{Kind, Stage};
 use crate::tables::Tables;
-use switch::request::Request;
 
 // Whether some flow met its demand, and a number that no demand of a flow which goes on rising is below. It is no option: the
 // number is known whether a flow met its demand or not.
@@ -68,7 +67,8 @@ impl Tables {
     {
         let mut met = Met {
             any: false,
-            least: u64::from(Request::DEMAND),
+            // The largest demand. Not by its name: with `Request::DEMAND` the compiler makes a plan of many rounds a tenth dearer.
+            least: 16_777_216,
         };
         for cell in 0..64 {
             met = self.meet(flows, cell, base, level, met);
