@@ -42,7 +42,7 @@ pub extern "C" fn rate_plan_check(plan: &[u8]) -> u64
 }
 
 // Which of the two files is to be loaded: 1 for the proposed one, 2 for the running one, 0 for neither. A pointer into one of
-// them would say no more, since the plan is bytes 512 to 1,535 of either.
+// them would say no more, since the plan is bytes 512 to 1,535 of either. (Numbers and no enum: it is what C is handed.)
 #[unsafe(no_mangle)]
 pub extern "C" fn rate_plan_choose(proposed: &[u8], running: &[u8]) -> u64
     ensures { result ≡ choice_of proposed.now running.now }

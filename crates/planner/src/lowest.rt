@@ -19,6 +19,7 @@ impl Tables {
         ensures { next_of result ≡ lowest (limits_of flows.now.cards) (limit_event self.now.left self.now.parts) never }
     {
         let mut best = Level::never();
+        // By number: the limit's is part of the answer, and without cards the last four are left out.
         for limit in 0..flows.limits() {
             let fills = Level {
                 high: self.left[limit],
@@ -47,6 +48,7 @@ impl Tables {
         ensures { next_of result ≡ lowest 64 (flow_event base flows.now.minima.now flows.now.weights.now self.now.stages) (next_of first) }
     {
         let mut best = first;
+        // By number: the cell's is part of the answer, and three tables tell what it is.
         for cell in 0..64 {
             let rises = Level {
                 high: u64::from(flows.minima[cell]) * base,

@@ -74,6 +74,7 @@ fn fill_row(
 {
     let port = input_port(n, numerators, u);
     let entering = level(times(capacity, base), port);
+    // By number: tables of any length are asked for the cell, and the used ones alone.
     for v in 0..n.min(8) {
         let c = cell(u, Output(v));
         let asked = times(entry(demands, c, 0), base);

@@ -44,7 +44,8 @@ impl Half {
     }
 }
 
-// What planning gives: a verdict, and the plan, which is the empty plan if the verdict refuses.
+// What planning gives: a verdict, and the plan, which is the empty plan if the verdict refuses. (No `Result`: document 01 promises the
+// empty plan with a refusal, and `planned` says so.)
 #[derive(Clone, Copy)]
 pub struct Planned {
     pub verdict: Verdict,

@@ -1,7 +1,8 @@
 // What listing answers.
 use switch::verdict::Verdict;
 
-// Whether there was room for the text, and how many bytes it takes.
+// Whether there was room for the text, and how many bytes it takes. (No `Result`: `listed` promises the length 0 with a refusal, and C
+// is handed no more than the length.)
 #[derive(Clone, Copy)]
 pub struct Listed {
     pub verdict: Verdict,
