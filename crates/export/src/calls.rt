@@ -62,5 +62,5 @@ pub extern "C" fn rate_plan_list(request: &[u8], text: &mut [u8]) -> u64
     ensures value { result ≡ (listed request.now text.old).length }
     ensures text_after { text.new ≡ listed_in request.now text.old }
 {
-    list(request, text).length as u64
+    u64::from(list(request, text).length)
 }
