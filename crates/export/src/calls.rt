@@ -42,7 +42,8 @@ pub extern "C" fn rate_plan_check(plan: &[u8]) -> u64
 }
 
 // Which of the two files is to be loaded: 1 for the proposed one, 2 for the running one, 0 for neither. A pointer into one of
-// them would say no more, since the plan is bytes 512 to 1,535 of either. (Numbers and no enum: it is what C is handed.)
+// them would say no more, since the plan is bytes 512 to 1,535 of either. (Numbers and no enum: it is what C is handed. Asked
+// here and not of files::choose: that hands back bytes, and this a number; both ask check, in the same order.)
 #[unsafe(no_mangle)]
 pub extern "C" fn rate_plan_choose(proposed: &[u8], running: &[u8]) -> u64
     ensures { result ≡ choice_of proposed.now running.now }

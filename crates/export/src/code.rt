@@ -4,7 +4,8 @@ ghost use Rattle.codes.specs.Code.{code_of, Placed};
 
 use switch::verdict::Verdict;
 
-// The refusal's number in the upper 32 bits, and its place in the lower ones.
+// The refusal's number in the upper 32 bits, and its place in the lower ones. (No From: the place has to fit 32 bits, which
+// Placed says.)
 pub fn code(verdict: Verdict) -> u64
     requires { Placed verdict }
     ensures { result ≡ code_of verdict }

@@ -1,4 +1,5 @@
--- Cited by no function today: asking for the verdict of a request and then for room, joined, says what the rows of writing say.
+-- Stands because docs/PORT.md names it; no function cites it today: asking for the verdict of a request and then for room,
+-- joined, says what the rows of writing say.
 use Prim.Native.Nat.{ℕ}
 use mathlib.Core.List.{List, [], ◌∷◌}
 use mathlib.Core.Path.{◌≡◌, sym, ◌∙◌, ap₂}

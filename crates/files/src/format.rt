@@ -1,4 +1,5 @@
-// The rows of a plan file that speak of what stands in it, and not of whether it is right: 7, from the request's spare words on, to 9.
+// The rows of a plan file that speak of what stands in it, and not of whether it is right: 7, from the request's spare words on,
+// to 9.
 ghost use Rattle.std.specs.Prelude.{◌≡◌, [], ◌∷◌};
 ghost use Rattle.switch.specs.Rows.{row_verdict, verdict_of, joined};
 ghost use Rattle.judging.specs.PlanRows.{half_not_zero, base_row};

@@ -24,6 +24,7 @@ pub trait Content {
 impl Content for Request {
     ghost word = { request_word };
 
+    // (Kinds are document 01's numbers, and a file may hold any word there: no enum.)
     #[tactic(auto, unfolding(formats::specs::RequestFile::request_word))]
     fn word(&self, i: u64) -> u32 {
         if i < 1 {
@@ -55,13 +56,13 @@ pub struct PlanHalf<'a> {
 fn low(x: u64) -> u32
     ensures { result ≡ low_of x }
 {
-    (x % 4_294_967_296) as u32
+    (x & 0xffff_ffff) as u32
 }
 
 fn high(x: u64) -> u32
     ensures { result ≡ high_of x }
 {
-    (x / 4_294_967_296) as u32
+    (x >> 32) as u32
 }
 
 impl Content for PlanHalf<'_> {
@@ -88,7 +89,7 @@ impl Content for PlanHalf<'_> {
     }
 }
 
-// Writes a block of a file that has room for it.
+// Writes a block of a file that has room for it. (By number: what a block holds is told by number, and put writes by number.)
 pub fn write_block<C: Content>(content: &C, block: u32, buffer: &mut [u8])
     requires { 512 * block + 512 ≤ length buffer.old }
     ensures { buffer.new ≡ take (512 * block) buffer.old ++ (block_of (start_of block) (C.word content.now) ++ drop (512 * (block + 1)) buffer.old) }

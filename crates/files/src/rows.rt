@@ -42,7 +42,7 @@ fn check_row(file: &[u8], blocks: u32) -> Verdict
     Verdict::Accepted
 }
 
-// The kinds of the file's blocks.
+// The kinds of the file's blocks. (Kinds are document 01's numbers, and a file may hold any word there: no enum.)
 #[tactic(auto, using(crate::proofs::Refusing::refuses_there, switch::proofs::Search::row_accepts))]
 fn kind_row(file: &[u8], kinds: &[u32]) -> Verdict
     requires { length kinds.now < 4_294_967_296 }

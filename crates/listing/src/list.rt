@@ -2,7 +2,7 @@
 ghost use Rattle.std.specs.Prelude.{◌≡◌, ◌≤◌, length, take};
 ghost use Rattle.texts.specs.Listing.{listing_of, listed, listed_in};
 
-use crate::lines::{plan_text, refused_text};
+use crate::lines::{Lines, refused_text};
 use crate::text::Text;
 use files::request::read_request;
 use planner::plan::plan;
@@ -18,9 +18,12 @@ fn text_of(file: &[u8]) -> Text
     let mut text = Text::new();
     match read.verdict {
         Verdict::Accepted => {
-            let request = read.request;
-            let answer = plan(request);
-            plan_text(&mut text, &request, &answer.plan);
+            let answer = plan(read.request);
+            let lines = Lines {
+                request: &read.request,
+                plan: &answer.plan,
+            };
+            lines.plan_text(&mut text);
         }
         Verdict::Refused(refusal) => refused_text(&mut text, refusal),
     }
@@ -37,6 +40,7 @@ pub fn list(file: &[u8], text: &mut [u8]) -> Listed
     let listing = text_of(file);
     let bytes = listing.as_bytes();
     let length = bytes.len();
+    // (Not files' room_row: the room is for this text, whose length is known only now.)
     if text.len() < length {
         return Listed {
             verdict: refused(Cause::Room, 0),

@@ -1,4 +1,5 @@
-// A text that is being written, piece behind piece, with room for the longest one.
+// A text that is being written, piece behind piece, with room for the longest one. (An array with its length: there is no heap,
+// and the model keeps the two together.)
 ghost use Rattle.std.specs.Prelude.{[], ◌∷◌, ◌++◌, ◌≡◌};
 ghost use Rattle.texts.specs.Decimal.{decimal};
 ghost use Rattle.listing.specs.Room.{HasRoom};
@@ -49,8 +50,9 @@ impl Text {
         self.len = end;
     }
 
-    // A number in decimal: what comes before its last digit is the number a tenth as large. By hand and not by `write!`, which would
-    // answer an error for the want of room, though room is required here, and whose digits are std's and not those of `decimal`.
+    // A number in decimal: what comes before its last digit is the number a tenth as large. By hand and not by `write!`, which
+    // would answer an error for the want of room, though room is required here, and whose digits are std's and not those of
+    // `decimal`.
     #[tactic(auto, using(crate::proofs::Pieces::digits))]
     fn number(&mut self, x: u64)
         requires { HasRoom self.old (decimal x) }

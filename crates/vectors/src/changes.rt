@@ -10,7 +10,8 @@ use files::plan::write_plan;
 use std::fmt;
 use switch::request::Request;
 
-// A word of the file, what it is changed to, and how its block is sealed then: as it is, as if it were the next one, or not again.
+// A word of the file, what it is changed to, and how its block is sealed then: as it is, as if it were the next one, or not
+// again.
 #[derive(Clone, Copy)]
 pub enum Change {
     Sealed { word: u16, to: u32 },

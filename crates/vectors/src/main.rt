@@ -13,7 +13,7 @@ mod values;
 
 use std::fmt;
 
-// Standard output by the kit's `io` and not by std's: of the C library it asks `write` alone.
+// Standard output by io and not by std's printing: of the C library it asks write alone.
 #[derive(Clone, Copy)]
 struct Out;
 
