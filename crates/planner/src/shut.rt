@@ -56,9 +56,9 @@ fn area_of(limit: usize) -> Area
 impl Tables {
     // Stops the flow of a cell: a rising one at the level, a waiting one where it is. The walk over an output card comes past
     // cells of the other card, and they are left as they are; without cards every walk comes to the limit's own cells only.
-    fn halt(&mut self, flows: &Flows, cell: usize, limit: usize, high: u64)
-        requires { (cell < 64) × (limit < limits_of flows.now.cards) × (high ≤ most_high) × (through limit cell ≡ on_card limit cell) × HaltRoomAt flows.now limit high cell self.old }
-        ensures { HaltedAt flows.now limit high cell self.old self.new }
+    fn halt(&mut self, flows: &Flows, cell: usize, limit: usize, level: Level)
+        requires { (cell < 64) × (limit < limits_of flows.now.cards) × (through limit cell ≡ on_card limit cell) × HaltRoomAt flows.now limit level.high cell self.old }
+        ensures { HaltedAt flows.now limit level.high cell self.old self.new }
     {
         if !flows.cards | (limit < 18) | (18 + cell % 8 / 4 == limit) {
             let share = u64::from(flows.weights[cell]);
@@ -68,7 +68,7 @@ impl Tables {
                     flows.cards,
                     cell,
                     Kind::Stopped(limit),
-                    share * high,
+                    share * level.high,
                     share,
                 ),
                 _ => {}
@@ -76,14 +76,14 @@ impl Tables {
         }
     }
 
-    // Stops every flow that passes a limit.
-    fn halt_all(&mut self, flows: &Flows, limit: usize, high: u64)
-        requires { (limit < limits_of flows.now.cards) × (high ≤ most_high) × HaltRoom flows.now limit high self.old }
-        ensures { HaltTo flows.now limit high 64 self.old self.new }
+    // Stops every flow that passes a limit, at the level.
+    fn halt_all(&mut self, flows: &Flows, limit: usize, level: Level)
+        requires { (limit < limits_of flows.now.cards) × HaltRoom flows.now limit level.high self.old }
+        ensures { HaltTo flows.now limit level.high 64 self.old self.new }
     {
         let area = area_of(limit);
         for cell in (area.first..area.end).step_by(area.step) {
-            self.halt(flows, cell, limit, high);
+            self.halt(flows, cell, limit, level);
         }
     }
 }
@@ -109,6 +109,6 @@ impl Filling {
         scale(count, level.parts, &mut self.levels);
         scale(count, level.parts, &mut self.tables.left);
         self.levels[limit] = level.high;
-        self.tables.halt_all(flows, limit, level.high);
+        self.tables.halt_all(flows, limit, level);
     }
 }
