@@ -1,9 +1,9 @@
 // A limit fills, and every flow that passes it stops.
-ghost use Rattle.std.specs.Prelude.{◌≤◌, ◌<◌, ◌≡◌};
+ghost use Rattle.std.specs.Prelude.{◌≤◌, ◌<◌, ◌≡◌, length};
 ghost use Rattle.planner.specs.Sizes.{most_base, most_high, most_parts};
 ghost use Rattle.planner.specs.Limits.{limits_of, through};
 ghost use Rattle.planner.specs.Areas.{on_card, area_of};
-ghost use Rattle.planner.specs.Tables.{Bounded, Scaled};
+ghost use Rattle.planner.specs.Tables.{Bounded, Multiplied};
 ghost use Rattle.planner.specs.Engine.{HaltRoomAt, HaltedAt, HaltRoom, HaltTo, ShutReady, Shut};
 
 use crate::filling::Filling;
@@ -88,13 +88,13 @@ impl Tables {
     }
 }
 
-// Multiplies the first entries of a table.
-fn scale(count: usize, k: u64, table: &mut [u64; 20])
-    requires { (count ≤ 20) × Bounded count most_high table.old × (k ≤ most_parts) }
-    ensures { Scaled count k table.old table.new }
+// Multiplies every entry of the front of a table.
+fn scale(k: u64, front: &mut [u64])
+    requires { (length front.old ≤ 20) × Bounded (length front.old) most_high front.old × (k ≤ most_parts) }
+    ensures { Multiplied (length front.old) k front.old front.new }
 {
-    for entry in &mut table[..count] {
-        *entry = *entry * k;
+    for entry in front.iter_mut() {
+        *entry *= k;
     }
 }
 
@@ -105,9 +105,9 @@ impl Filling {
         ensures { Shut flows.now limit level self.old self.new }
     {
         let count = flows.limits();
-        self.base = self.base * level.parts;
-        scale(count, level.parts, &mut self.levels);
-        scale(count, level.parts, &mut self.tables.left);
+        self.base *= level.parts;
+        scale(level.parts, &mut self.levels[..count]);
+        scale(level.parts, &mut self.tables.left[..count]);
         self.levels[limit] = level.high;
         self.tables.halt_all(flows, limit, level);
     }
