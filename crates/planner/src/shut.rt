@@ -90,10 +90,10 @@ impl Tables {
 
 // Multiplies every entry of the front of a table.
 fn scale(k: u64, front: &mut [u64])
-    requires { (length front.old ≤ 20) × Bounded (length front.old) most_high front.old × (k ≤ most_parts) }
+    requires { Bounded (length front.old) most_high front.old × (k ≤ most_parts) }
     ensures { Multiplied (length front.old) k front.old front.new }
 {
-    for entry in front.iter_mut() {
+    for entry in front {
         *entry *= k;
     }
 }

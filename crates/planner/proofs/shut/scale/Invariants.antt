@@ -3,4 +3,4 @@ use Rattle.planner.specs.Tables.{Multiplied}
 use Rattle.planner.proofs.shut.scale.Given as goal
 
 abbrev pub invariant-loop-entry : goal.invariant-loop-entry
-invariant-loop-entry l = Multiplied l.entry-index l.k l.initial.front l.front
+invariant-loop-entry l = Multiplied l.entry-index l.k l.initial.entry-items l.entry-items
