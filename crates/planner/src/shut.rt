@@ -65,7 +65,7 @@ impl Tables {
             match self.stages[cell].kind() {
                 Kind::Waiting => self.stages[cell] = Stage::of(Kind::Held),
                 Kind::Rising => self.stop(
-                    flows.cards,
+                    flows,
                     cell,
                     Kind::Stopped(limit),
                     share * level.high,
