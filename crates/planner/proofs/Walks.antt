@@ -17,7 +17,8 @@ use Rattle.planner.specs.Limits.{limits_of, through}
 use Rattle.planner.specs.Tables.{Covers, Lowered, Halted, Roomy, RoomyBy, Scaled, Taken, Marked, Swept}
 use Rattle.planner.specs.declared.tables.Tables.{Tables}
 
--- Cited by no function today: a flow that is given nothing changes no limit, and one that keeps its stage changes nothing.
+-- A flow that is given nothing changes no limit, and one that keeps its stage changes nothing.
+-- Stands because docs/PORT-NAMES.md names these; no function cites them today.
 pub lowered_none : (cards : Bool) (c x : ℕ) (t : List ℕ) → length t ≡ 20 → x ≡ 0 → Lowered cards c x t t
 lowered_none cards c x t long e =
     record { long = (long, long); each = λ l h. omega (arith, on_nothing (through l c) x e) }
@@ -147,7 +148,8 @@ module _ (cards : Bool) (stage x weight : ℕ → ℕ) (old new : Tables) where
         freed = taken_past cards weight old.parts new.parts i j h (λ c g l. (same c g l).2) so_far.freed;
       }
 
--- Cited by no function today: one more entry of a table of the limits is multiplied, and what has room once all are.
+-- One more entry of a table of the limits is multiplied, and what has room once all are.
+-- Stands because docs/PORT-NAMES.md names these; no function cites them today.
 pub scaled_none : (k : ℕ) (t : List ℕ) → length t ≡ 20 → Scaled 0 k t t
 scaled_none k t long = record { long = long; each = λ l h. absurd (omega arith); rest = λ l h. refl }
 

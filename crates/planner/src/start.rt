@@ -37,6 +37,7 @@ impl Tables {
         ensures { Started flows.now result self.old self.new }
     {
         let mut held = false;
+        // By number: three tables change at the cell.
         for cell in 0..64 {
             held = self.begin(flows, cell, held);
         }

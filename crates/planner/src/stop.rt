@@ -69,6 +69,7 @@ impl Tables {
             // The largest demand. Not by its name: with `Request::DEMAND` the compiler makes a plan of many rounds a tenth dearer.
             least: 16_777_216,
         };
+        // By number: three tables change at the cell.
         for cell in 0..64 {
             met = self.meet(flows, cell, base, level, met);
         }
