@@ -62,7 +62,8 @@ module _ (f : Flows) (capacities : List ℕ) (modest : Modest (sharing f capacit
       unwaiting : (c : ℕ) → cells f.minima.now c ≡ 0 → start_stage f.demands.now f.minima.now c ≢ 22
       unwaiting c none q = neither (ltb 0 (cells f.demands.now c)) (rw none at q)
 
--- Cited by no function today: the capacities have room for all minima, and no limit has too many weights.
+-- The capacities have room for all minima, and no limit has too many weights.
+-- Stands because docs/PORT-NAMES.md names these; no function cites them today.
 module _ (cards : Bool) (capacities demands minima weights : List ℕ) (heaviest : ℕ)
     (modest : Modest (problem cards capacities demands minima weights) heaviest) where
   pub room_start : length capacities ≡ 20 → Roomy cards (cells minima) capacities

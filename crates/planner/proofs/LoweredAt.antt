@@ -1,4 +1,5 @@
--- Cited by no function today: one entry of a table has less or more, and what that makes of the limits of one flow.
+-- One entry of a table has less or more, and what that makes of the limits of one flow.
+-- Stands because docs/PORT-NAMES.md names these; no function cites them today.
 use Prim.Native.Nat.{ℕ, ◌+◌, ◌-◌, ◌/◌, ◌%◌, ◌≤◌, ◌<◌}
 use mathlib.Core.Path.{◌≡◌, refl, sym, ap, ◌∙◌}
 use mathlib.Core.Bool.{Bool, true, false}

@@ -21,7 +21,8 @@ use Rattle.planner.specs.declared.tables.Tables.{Tables}
 use Rattle.planner.proofs.Stages.{start_stages, limit_small}
 use Rattle.planner.proofs.Walks.{lowered_none}
 
--- Cited by no function today: one flow begins. It waits, it rises, or it asks for nothing.
+-- One flow begins. It waits, it rises, or it asks for nothing.
+-- Stands because docs/PORT-NAMES.md names these; no function cites them today.
 module _ {cards : Bool} {c : ℕ} (demand minimum weight : ℕ) {t : Tables} where
   pub begun_waiting : {left : List ℕ} → 0 < minimum → Lowered cards c minimum t.left left → length t.parts ≡ 20
       → Begun cards c (first_stage demand minimum) minimum (first_weight demand minimum weight) t

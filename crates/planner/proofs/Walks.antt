@@ -1,12 +1,12 @@
 -- Walks over the cells, one cell at a time or past cells that nothing is done to.
-use Prim.Native.Nat.{ℕ, ◌+◌, ◌-◌, ◌*◌, ◌≤◌, ◌<◌}
+use Prim.Native.Nat.{ℕ, ◌+◌, ◌*◌, ◌≤◌, ◌<◌}
 use mathlib.Core.Path.{◌≡◌, refl, sym, ◌∙◌, ap}
 use mathlib.Core.Bool.{Bool, true}
-use mathlib.Core.List.{List, ◌++◌}
+use mathlib.Core.List.{List}
 use mathlib.Core.Logic.{◌⊎◌, inl, inr}
 use native.Mathlib.Omega.{arith}
 use native.Mathlib.Nat.{le_dest}
-use lib.ListN.{length, set, take, drop, length-set, length-append, length-drop}
+use lib.ListN.{length, set, length-set}
 use lib.Seq.{get_or-set_same, get_or-set_other, set-get_or, ext_get_or}
 use Rattle.laws.specs.Lists.{cells, list}
 use Rattle.laws.proofs.Lists.{cells-list, length-list}
@@ -14,11 +14,11 @@ use Rattle.laws.proofs.Search.{le_or_lt, eq_or_not}
 use Rattle.fairness.specs.Total.{on, total}
 use Rattle.fairness.proofs.Sums.{on_nothing, total_next, total_up, total_past}
 use Rattle.planner.specs.Limits.{limits_of, through}
-use Rattle.std.proofs.lemmas.List.{get_or_append_left, get_or-append_right, get_or-take, get_or-drop, length-take-le}
 use Rattle.planner.specs.Tables.{Covers, Lowered, Halted, Roomy, RoomyBy, Scaled, Taken, Marked, Swept}
 use Rattle.planner.specs.declared.tables.Tables.{Tables}
 
--- Cited by no function today: a flow that is given nothing changes no limit, and one that keeps its stage changes nothing.
+-- A flow that is given nothing changes no limit, and one that keeps its stage changes nothing.
+-- Stands because docs/PORT-NAMES.md names these; no function cites them today.
 pub lowered_none : (cards : Bool) (c x : ℕ) (t : List ℕ) → length t ≡ 20 → x ≡ 0 → Lowered cards c x t t
 lowered_none cards c x t long e =
     record { long = (long, long); each = λ l h. omega (arith, on_nothing (through l c) x e) }
@@ -148,30 +148,8 @@ module _ (cards : Bool) (stage x weight : ℕ → ℕ) (old new : Tables) where
         freed = taken_past cards weight old.parts new.parts i j h (λ c g l. (same c g l).2) so_far.freed;
       }
 
--- The first i entries of a list have been multiplied by k.
-pub record Multiplied (i k : ℕ) (old new : List ℕ) : Type 0 where
-  pub long : length new ≡ length old
-  pub each : (l : ℕ) → l < i → cells new l ≡ cells old l * k
-  pub rest : (l : ℕ) → i ≤ l → cells new l ≡ cells old l
-
--- Of a table of the limits, its front.
-pub scaled_front : (count k : ℕ) (table front : List ℕ) → count ≤ 20 → length table ≡ 20
-    → Multiplied count k (take count table) front → Scaled count k table (front ++ drop count table)
-scaled_front count k table front few long by =
-    record {
-      long = simp (length-append, length-drop) (omega (arith, by.long, front_long, long));
-      each = λ l h.
-          get_or_append_left front (drop count table) 0 l (omega (arith, by.long, front_long)) ∙ by.each l h
-          ∙ ap (λ x. x * k) (get_or-take count table l 0 h);
-      rest = λ l h.
-          get_or-append_right front (drop count table) count l 0 (by.long ∙ front_long) h ∙ get_or-drop count table (l - count) 0
-          ∙ ap (cells table) (omega arith);
-    }
-  where
-    front_long : length (take count table) ≡ count
-    front_long = length-take-le count table (omega arith)
-
--- Cited by no function today: one more entry of a table of the limits is multiplied, and what has room once all are.
+-- One more entry of a table of the limits is multiplied, and what has room once all are.
+-- Stands because docs/PORT-NAMES.md names these; no function cites them today.
 pub scaled_none : (k : ℕ) (t : List ℕ) → length t ≡ 20 → Scaled 0 k t t
 scaled_none k t long = record { long = long; each = λ l h. absurd (omega arith); rest = λ l h. refl }
 

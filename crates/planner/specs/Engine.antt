@@ -104,8 +104,8 @@ pub record Started (f : Flows) (held : Bool) (old new : Tables) : Type 0 where
 abbrev pub halted_stage : ℕ → ℕ → ℕ
 halted_stage l stage = cond (eqb stage 20) l (cond (eqb stage 22) 23 stage)
 
--- A rising flow has its demand at or below the level `high` / `parts`; and the same of a flow by its cell. `met_in`
--- stands in no contract today.
+-- A rising flow has its demand at or below the level `high` / `parts`; and the same of a flow by its cell. `met_in` stands because
+-- docs/PORT-NAMES.md names it; no contract cites it today.
 abbrev pub met_by : ℕ → ℕ → ℕ → ℕ → ℕ → ℕ → Bool
 met_by base high parts demand weight stage = eqb stage 20 && leb (demand * (base * parts)) (high * weight)
 

@@ -19,10 +19,9 @@ impl Filling {
     {
         'turns: while let Some(level) = self.next_level(flows) {
             let met = self.stop_some(flows, level);
-            if met {
-                continue 'turns;
+            if !met {
+                self.happen(flows, level);
             }
-            self.happen(flows, level);
         }
     }
 }

@@ -3,7 +3,9 @@ ghost use Rattle.std.specs.Prelude.{◌≤◌};
 ghost use Rattle.planner.specs.Sizes.{most_asked, most_parts};
 ghost use Rattle.planner.specs.Tables.{Bounded};
 
-// Whether there are cards, the largest weight, and for each cell what its flow asks for, its minimum and its weight.
+// Whether there are cards, the largest weight, and for each cell what its flow asks for, its minimum and its weight. (Tables beside
+// each other: the demands are lent from the request, and definitions and lemmas speak of each as a list.) A cell is a number with
+// `cell < 64` in ten contracts: tried as a struct with a ghost field, it proves, but `.at` stands 55 times in their place.
 #[derive(Clone, Copy)]
 pub struct Flows<'a> {
     pub cards: bool,

@@ -8,7 +8,6 @@ ghost use Rattle.planner.specs.Engine.{Freed, FillsReady, ReachesReady, Happened
 use crate::filling::Filling;
 use crate::flows::Flows;
 use crate::level::{Event, Level};
-use crate::limits::give;
 use crate::stage::{Kind, Stage};
 
 impl Filling {
@@ -20,8 +19,8 @@ impl Filling {
         let x = u64::from(flows.minima[cell]) * self.base;
         let weight = u64::from(flows.weights[cell]);
         self.tables.stages[cell] = Stage::of(Kind::Rising);
-        give(flows.cards, cell, x, &mut self.tables.left);
-        give(flows.cards, cell, weight, &mut self.tables.parts);
+        flows.give(cell, x, &mut self.tables.left);
+        flows.give(cell, weight, &mut self.tables.parts);
         self.least = 0;
     }
 

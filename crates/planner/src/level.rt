@@ -24,7 +24,8 @@ impl Level {
     ghost use Rattle.fairness.specs.Filling.{never, lower};
     ghost use Rattle.planner.specs.Engine.{level_of, next_of};
 
-    // 1 over 0 is above all others: a search begins with it, and its event never happens.
+    // 1 over 0 is above all others: a search begins with it, and its event never happens. (No Option on the way: `never` and
+    // `lowest` of fairness are this search, and `next_level` makes an Option of its answer.)
     pub fn never() -> Level
         ensures { next_of result ≡ never }
     {

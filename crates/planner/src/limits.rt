@@ -2,35 +2,40 @@
 ghost use Rattle.std.specs.Prelude.{◌<◌};
 ghost use Rattle.planner.specs.Tables.{Passed, Covers, Holds, Changed, Lowered};
 
-// Changes the number of each limit that the flow of a cell passes: its input's, its output's and, with cards, those of their cards.
-fn change<F: Fn(u64) -> u64>(cards: bool, cell: usize, table: &mut [u64; 20], to: F)
-    requires { (cell < 64) × Passed cards cell (F.pre to) table.old }
-    ensures { Changed cards cell (F.post to) table.old table.new }
-{
-    let input = cell / 8;
-    let output = 8 + cell % 8;
-    table[input] = to(table[input]);
-    table[output] = to(table[output]);
-    if cards {
-        let input_card = 16 + cell / 32;
-        let output_card = 18 + cell % 8 / 4;
-        table[input_card] = to(table[input_card]);
-        table[output_card] = to(table[output_card]);
+use crate::flows::Flows;
+
+impl Flows<'_> {
+    // Changes the number of each limit that the flow of a cell passes: its input's, its output's and, with cards, those of their
+    // cards.
+    fn change<F: Fn(u64) -> u64>(&self, cell: usize, table: &mut [u64; 20], to: F)
+        requires { (cell < 64) × Passed self.now.cards cell (F.pre to) table.old }
+        ensures { Changed self.now.cards cell (F.post to) table.old table.new }
+    {
+        let input = cell / 8;
+        let output = 8 + cell % 8;
+        table[input] = to(table[input]);
+        table[output] = to(table[output]);
+        if self.cards {
+            let input_card = 16 + cell / 32;
+            let output_card = 18 + cell % 8 / 4;
+            table[input_card] = to(table[input_card]);
+            table[output_card] = to(table[output_card]);
+        }
     }
-}
 
-// Takes x off the limits that the flow of a cell passes.
-pub fn take(cards: bool, cell: usize, x: u64, table: &mut [u64; 20])
-    requires { (cell < 64) × Covers cards cell x table.old }
-    ensures { Lowered cards cell x table.old table.new }
-{
-    change(cards, cell, table, |y| y - x);
-}
+    // Takes x off the limits that the flow of a cell passes.
+    pub fn take(&self, cell: usize, x: u64, table: &mut [u64; 20])
+        requires { (cell < 64) × Covers self.now.cards cell x table.old }
+        ensures { Lowered self.now.cards cell x table.old table.new }
+    {
+        self.change(cell, table, |y| y - x);
+    }
 
-// Puts x on them.
-pub fn give(cards: bool, cell: usize, x: u64, table: &mut [u64; 20])
-    requires { (cell < 64) × Holds cards cell x table.old }
-    ensures { Lowered cards cell x table.new table.old }
-{
-    change(cards, cell, table, |y| y + x);
+    // Puts x on them.
+    pub fn give(&self, cell: usize, x: u64, table: &mut [u64; 20])
+        requires { (cell < 64) × Holds self.now.cards cell x table.old }
+        ensures { Lowered self.now.cards cell x table.new table.old }
+    {
+        self.change(cell, table, |y| y + x);
+    }
 }

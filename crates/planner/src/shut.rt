@@ -1,9 +1,9 @@
 // A limit fills, and every flow that passes it stops.
-ghost use Rattle.std.specs.Prelude.{◌≤◌, ◌<◌, ◌≡◌};
+ghost use Rattle.std.specs.Prelude.{◌≤◌, ◌<◌, ◌≡◌, length};
 ghost use Rattle.planner.specs.Sizes.{most_base, most_high, most_parts};
 ghost use Rattle.planner.specs.Limits.{limits_of, through};
 ghost use Rattle.planner.specs.Areas.{on_card, area_of};
-ghost use Rattle.planner.specs.Tables.{Bounded, Scaled};
+ghost use Rattle.planner.specs.Tables.{Bounded, Multiplied};
 ghost use Rattle.planner.specs.Engine.{HaltRoomAt, HaltedAt, HaltRoom, HaltTo, ShutReady, Shut};
 
 use crate::filling::Filling;
@@ -56,19 +56,19 @@ fn area_of(limit: usize) -> Area
 impl Tables {
     // Stops the flow of a cell: a rising one at the level, a waiting one where it is. The walk over an output card comes past
     // cells of the other card, and they are left as they are; without cards every walk comes to the limit's own cells only.
-    fn halt(&mut self, flows: &Flows, cell: usize, limit: usize, high: u64)
-        requires { (cell < 64) × (limit < limits_of flows.now.cards) × (high ≤ most_high) × (through limit cell ≡ on_card limit cell) × HaltRoomAt flows.now limit high cell self.old }
-        ensures { HaltedAt flows.now limit high cell self.old self.new }
+    fn halt(&mut self, flows: &Flows, cell: usize, limit: usize, level: Level)
+        requires { (cell < 64) × (limit < limits_of flows.now.cards) × (through limit cell ≡ on_card limit cell) × HaltRoomAt flows.now limit level.high cell self.old }
+        ensures { HaltedAt flows.now limit level.high cell self.old self.new }
     {
         if !flows.cards | (limit < 18) | (18 + cell % 8 / 4 == limit) {
             let share = u64::from(flows.weights[cell]);
             match self.stages[cell].kind() {
                 Kind::Waiting => self.stages[cell] = Stage::of(Kind::Held),
                 Kind::Rising => self.stop(
-                    flows.cards,
+                    flows,
                     cell,
                     Kind::Stopped(limit),
-                    share * high,
+                    share * level.high,
                     share,
                 ),
                 _ => {}
@@ -76,25 +76,25 @@ impl Tables {
         }
     }
 
-    // Stops every flow that passes a limit.
-    fn halt_all(&mut self, flows: &Flows, limit: usize, high: u64)
-        requires { (limit < limits_of flows.now.cards) × (high ≤ most_high) × HaltRoom flows.now limit high self.old }
-        ensures { HaltTo flows.now limit high 64 self.old self.new }
+    // Stops every flow that passes a limit, at the level.
+    fn halt_all(&mut self, flows: &Flows, limit: usize, level: Level)
+        requires { (limit < limits_of flows.now.cards) × HaltRoom flows.now limit level.high self.old }
+        ensures { HaltTo flows.now limit level.high 64 self.old self.new }
     {
         let area = area_of(limit);
         for cell in (area.first..area.end).step_by(area.step) {
-            self.halt(flows, cell, limit, high);
+            self.halt(flows, cell, limit, level);
         }
     }
 }
 
-// Multiplies the first entries of a table.
-fn scale(count: usize, k: u64, table: &mut [u64; 20])
-    requires { (count ≤ 20) × Bounded count most_high table.old × (k ≤ most_parts) }
-    ensures { Scaled count k table.old table.new }
+// Multiplies every entry of the front of a table.
+fn scale(k: u64, front: &mut [u64])
+    requires { Bounded (length front.old) most_high front.old × (k ≤ most_parts) }
+    ensures { Multiplied (length front.old) k front.old front.new }
 {
-    for entry in &mut table[..count] {
-        *entry = *entry * k;
+    for entry in front {
+        *entry *= k;
     }
 }
 
@@ -105,10 +105,10 @@ impl Filling {
         ensures { Shut flows.now limit level self.old self.new }
     {
         let count = flows.limits();
-        self.base = self.base * level.parts;
-        scale(count, level.parts, &mut self.levels);
-        scale(count, level.parts, &mut self.tables.left);
+        self.base *= level.parts;
+        scale(level.parts, &mut self.levels[..count]);
+        scale(level.parts, &mut self.tables.left[..count]);
         self.levels[limit] = level.high;
-        self.tables.halt_all(flows, limit, level.high);
+        self.tables.halt_all(flows, limit, level);
     }
 }

@@ -4,7 +4,6 @@ ghost use Rattle.laws.specs.Lists.{cells};
 ghost use Rattle.planner.specs.Engine.{BeginRoom, BegunAt, StartRoom, Started};
 
 use crate::flows::Flows;
-use crate::limits::{give, take};
 use crate::stage::{Kind, Stage};
 use crate::tables::Tables;
 
@@ -20,11 +19,11 @@ impl Tables {
         let weight = u64::from(flows.weights[cell]);
         if 0 < minimum {
             self.stages[cell] = Stage::of(Kind::Waiting);
-            take(flows.cards, cell, minimum, &mut self.left);
+            flows.take(cell, minimum, &mut self.left);
             true
         } else if 0 < flows.demands[cell] {
             self.stages[cell] = Stage::of(Kind::Rising);
-            give(flows.cards, cell, weight, &mut self.parts);
+            flows.give(cell, weight, &mut self.parts);
             held
         } else {
             self.stages[cell] = Stage::of(Kind::Met);
@@ -38,6 +37,7 @@ impl Tables {
         ensures { Started flows.now result self.old self.new }
     {
         let mut held = false;
+        // By number: three tables change at the cell.
         for cell in 0..64 {
             held = self.begin(flows, cell, held);
         }

@@ -10,7 +10,6 @@ ghost use Rattle.planner.specs.Engine.{meets_at, MetRoomAt, MetAt, MetRoom, MetT
 use crate::filling::Filling;
 use crate::flows::Flows;
 use crate::level::Level;
-use crate::limits::take;
 use crate::stage::{Kind, Stage};
 use crate::tables::Tables;
 
@@ -24,13 +23,13 @@ pub struct Met {
 
 impl Tables {
     // Gives the flow of a cell its rate, and marks why it stopped.
-    pub fn stop(&mut self, cards: bool, cell: usize, kind: Kind, x: u64, weight: u64)
-        requires { (cell < 64) × Numbered kind × Spares cards cell x weight self.old }
-        ensures { Halted cards cell (number_of kind) x weight self.old self.new }
+    pub fn stop(&mut self, flows: &Flows, cell: usize, kind: Kind, x: u64, weight: u64)
+        requires { (cell < 64) × Numbered kind × Spares flows.now.cards cell x weight self.old }
+        ensures { Halted flows.now.cards cell (number_of kind) x weight self.old self.new }
     {
         self.stages[cell] = Stage::of(kind);
-        take(cards, cell, x, &mut self.left);
-        take(cards, cell, weight, &mut self.parts);
+        flows.take(cell, x, &mut self.left);
+        flows.take(cell, weight, &mut self.parts);
     }
 
     // Stops the flow of a cell at its demand, if it rises and has its demand at or below the level.
@@ -51,7 +50,7 @@ impl Tables {
                 least: asked.min(met.least),
             };
         }
-        self.stop(flows.cards, cell, Kind::Met, asked * base, share);
+        self.stop(flows, cell, Kind::Met, asked * base, share);
         Met {
             any: true,
             least: met.least,
@@ -70,6 +69,7 @@ impl Tables {
             // The largest demand. Not by its name: with `Request::DEMAND` the compiler makes a plan of many rounds a tenth dearer.
             least: 16_777_216,
         };
+        // By number: three tables change at the cell.
         for cell in 0..64 {
             met = self.meet(flows, cell, base, level, met);
         }

@@ -50,45 +50,13 @@ stop_some-met-requires c =
     (base_now (fit l) (engaged l), (engaged l).light, room_met one)
 
 -- The flows that meet their demands have stopped.
-pub turns-smaller-then-met : goal.turns-smaller-then-met
-unfolding work state_of standing
-turns-smaller-then-met c =
-    let l = (goal.at.turns-smaller-then-met c).At-turns in
-    let one = turn l c.in-Some.level c.in-Some.ensures (fit l) (engaged l) in
-    let met = c.stop_some-met.ensures in
-    (met_turn one c.stop_some-met.new.self met.light met.swept met.kept (sym met.any_value ∙ c.if-met.true)).1
-
-pub turns-preserved-then-met : goal.turns-preserved-then-met
-turns-preserved-then-met c capacities fits at =
-    let l = (goal.at.turns-preserved-then-met c).At-turns in
-    let one =
-    turn l c.in-Some.level c.in-Some.ensures fits
-    (c.turns.invariant capacities fits at) in
-    let met = c.stop_some-met.ensures in
-    (met_turn one c.stop_some-met.new.self met.light met.swept met.kept (sym met.any_value ∙ c.if-met.true)).0
-
--- None has, and the turn goes on with what the level stands for.
-pub happen-requires : goal.happen-requires
-happen-requires c =
-    let l = (goal.at.happen-requires c).At-turns in
-    let one = turn l c.in-Some.level c.in-Some.ensures (fit l) (engaged l) in
-    let met = c.stop_some-met.ensures in
-    let on = unmet_on one c.stop_some-met.new.self met.light met.swept met.kept (sym met.any_value ∙ c.if-met.false) in
-    let ready = happen_ready on.0 on.1 in
-    (base_now (fit l) on.0.now, ready.0, ready.1)
-
--- What the level stands for has happened.
 pub turns-smaller : goal.turns-smaller
 unfolding work state_of standing
 turns-smaller c =
     let l = (goal.at.turns-smaller c).At-turns in
     let one = turn l c.in-Some.level c.in-Some.ensures (fit l) (engaged l) in
     let met = c.stop_some-met.ensures in
-    let on = unmet_on one c.stop_some-met.new.self met.light met.swept met.kept (sym met.any_value ∙ c.if-met.false) in
-    subst
-    (λ (s : State). work (sharing c.args.flows.now (own l)) (state_at (sharing c.args.flows.now (own l)) c.happen.new.self)
-    < work (sharing c.args.flows.now (own l)) s)
-    on.2 (happened_turn on.0 on.1 c.happen.new.self c.happen.ensures).1
+    (met_turn one c.stop_some-met.new.self met.light met.swept met.kept (sym met.any_value ∙ c.if-not-met.false)).1
 
 pub turns-preserved : goal.turns-preserved
 turns-preserved c capacities fits at =
@@ -97,5 +65,37 @@ turns-preserved c capacities fits at =
     turn l c.in-Some.level c.in-Some.ensures fits
     (c.turns.invariant capacities fits at) in
     let met = c.stop_some-met.ensures in
-    let on = unmet_on one c.stop_some-met.new.self met.light met.swept met.kept (sym met.any_value ∙ c.if-met.false) in
+    (met_turn one c.stop_some-met.new.self met.light met.swept met.kept (sym met.any_value ∙ c.if-not-met.false)).0
+
+-- None has, and the turn goes on with what the level stands for.
+pub happen-requires : goal.happen-requires
+happen-requires c =
+    let l = (goal.at.happen-requires c).At-turns in
+    let one = turn l c.in-Some.level c.in-Some.ensures (fit l) (engaged l) in
+    let met = c.stop_some-met.ensures in
+    let on = unmet_on one c.stop_some-met.new.self met.light met.swept met.kept (sym met.any_value ∙ c.if-not-met.true) in
+    let ready = happen_ready on.0 on.1 in
+    (base_now (fit l) on.0.now, ready.0, ready.1)
+
+-- What the level stands for has happened.
+pub turns-smaller-then-not-met : goal.turns-smaller-then-not-met
+unfolding work state_of standing
+turns-smaller-then-not-met c =
+    let l = (goal.at.turns-smaller-then-not-met c).At-turns in
+    let one = turn l c.in-Some.level c.in-Some.ensures (fit l) (engaged l) in
+    let met = c.stop_some-met.ensures in
+    let on = unmet_on one c.stop_some-met.new.self met.light met.swept met.kept (sym met.any_value ∙ c.if-not-met.true) in
+    subst
+    (λ (s : State). work (sharing c.args.flows.now (own l)) (state_at (sharing c.args.flows.now (own l)) c.happen.new.self)
+    < work (sharing c.args.flows.now (own l)) s)
+    on.2 (happened_turn on.0 on.1 c.happen.new.self c.happen.ensures).1
+
+pub turns-preserved-then-not-met : goal.turns-preserved-then-not-met
+turns-preserved-then-not-met c capacities fits at =
+    let l = (goal.at.turns-preserved-then-not-met c).At-turns in
+    let one =
+    turn l c.in-Some.level c.in-Some.ensures fits
+    (c.turns.invariant capacities fits at) in
+    let met = c.stop_some-met.ensures in
+    let on = unmet_on one c.stop_some-met.new.self met.light met.swept met.kept (sym met.any_value ∙ c.if-not-met.true) in
     (happened_turn on.0 on.1 c.happen.new.self c.happen.ensures).0

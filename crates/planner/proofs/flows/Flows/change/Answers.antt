@@ -1,7 +1,7 @@
 -- `change` meets its contract: the flow's limits are changed one after the other.
 use Rattle.planner.proofs.Lowering.{at_input, at_output, at_input_card, at_output_card}
 use Rattle.planner.proofs.Lowering.{changed_ports, changed_cards}
-use Rattle.planner.proofs.limits.change.Goals as goal
+use Rattle.planner.proofs.flows.Flows.change.Goals as goal
 
 pub to-requires : goal.to-requires
 to-requires g c =
@@ -12,23 +12,23 @@ to-requires-2 g c =
     at_output (goal.F-post g c.args.to) c.requires.0 c.requires.1
     c.to.result c.to.ensures
 
-pub to-requires-then-cards : goal.to-requires-then-cards
-to-requires-then-cards g c =
+pub to-requires-then-self : goal.to-requires-then-self
+to-requires-then-self g c =
     at_input_card (goal.F-post g c.args.to) c.requires.0 c.requires.1
-    c.to.result c.to.ensures c.to-2.result c.to-2.ensures c.if-cards.true
+    c.to.result c.to.ensures c.to-2.result c.to-2.ensures c.if-self.true
 
-pub to-requires-then-cards-2 : goal.to-requires-then-cards-2
-to-requires-then-cards-2 g c =
+pub to-requires-then-self-2 : goal.to-requires-then-self-2
+to-requires-then-self-2 g c =
     at_output_card (goal.F-post g c.args.to) c.requires.0 c.requires.1
-    c.to.result c.to.ensures c.to-2.result c.to-2.ensures c.if-cards.true c.to-then-cards.result c.to-then-cards.ensures
+    c.to.result c.to.ensures c.to-2.result c.to-2.ensures c.if-self.true c.to-then-self.result c.to-then-self.ensures
 
-pub returns-then-cards : goal.returns-then-cards
-returns-then-cards g c =
+pub returns-then-self : goal.returns-then-self
+returns-then-self g c =
     changed_cards (goal.F-post g c.args.to) c.requires.0 c.requires.1
-    c.to.result c.to.ensures c.to-2.result c.to-2.ensures c.if-cards.true c.to-then-cards.result c.to-then-cards.ensures
-    c.to-then-cards-2.result c.to-then-cards-2.ensures
+    c.to.result c.to.ensures c.to-2.result c.to-2.ensures c.if-self.true c.to-then-self.result c.to-then-self.ensures
+    c.to-then-self-2.result c.to-then-self-2.ensures
 
 pub returns : goal.returns
 returns g c =
     changed_ports (goal.F-post g c.args.to) c.requires.0 c.requires.1
-    c.to.result c.to.ensures c.to-2.result c.to-2.ensures c.if-cards.false
+    c.to.result c.to.ensures c.to-2.result c.to-2.ensures c.if-self.false
