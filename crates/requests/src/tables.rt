@@ -64,12 +64,13 @@ pub fn ports_over(bound: Bound, from: u32, count: u32, table: &[u32; 8]) -> Verd
 }
 
 // The cells, in words from 19 on, input by input.
-pub fn cells_over(bound: Bound, m: u32, n: u32, table: &[u32; 64]) -> Verdict
-    ensures { result ≡ row_verdict (cells_over bound.cause 19 bound.used m n bound.most table.now) }
+pub fn cells_over(bound: Bound, request: &Request) -> Verdict
+    ensures { result ≡ row_verdict (cells_over bound.cause 19 bound.used request.now.m request.now.n bound.most request.now.demands) }
 {
     for u in 0..8 {
         let first = 8 * u64::from(u);
-        if let Some(c) = first_over(bound, first, used_end(m, n, Input(u)), first + 8, table) {
+        let end = used_end(request.m, request.n, Input(u));
+        if let Some(c) = first_over(bound, first, end, first + 8, &request.demands) {
             return refused(bound.cause, 19 + c);
         }
     }
