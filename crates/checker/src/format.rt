@@ -7,6 +7,7 @@ ghost use Rattle.judging.specs.PlanRows.{first_word, unused_rates, unused_reason
 ghost use Rattle.judging.specs.Places.{reason_word};
 ghost use Rattle.checker.specs.Found.{FirstThat};
 
+use crate::found::refused_if;
 use switch::plan::{Half, Plan};
 use switch::port::{Input, used_end};
 use switch::request::Request;
@@ -67,19 +68,16 @@ fn reason_word(cell: u64) -> u64
 fn unused_rates(request: &Request, plan: &Plan, half: Half) -> Verdict
     ensures { result ≡ row_verdict (unused_rates request.now plan.now (half_number half)) }
 {
-    match first_unused(request, half, &plan.numerators, 0) {
-        Some(c) => refused(Cause::NotZero, first_word(c, plan.numerators[c as usize])),
-        None => Verdict::Accepted,
-    }
+    let found = first_unused(request, half, &plan.numerators, 0);
+    let word = found.map(|c| first_word(c, plan.numerators[c as usize]) as usize);
+    refused_if(Cause::NotZero, word)
 }
 
 fn unused_reasons(request: &Request, plan: &Plan, half: Half) -> Verdict
     ensures { result ≡ row_verdict (unused_reasons request.now plan.now (half_number half)) }
 {
-    match first_unused(request, half, &plan.reasons, 0) {
-        Some(c) => refused(Cause::NotZero, reason_word(c)),
-        None => Verdict::Accepted,
-    }
+    let found = first_unused(request, half, &plan.reasons, 0);
+    refused_if(Cause::NotZero, found.map(|c| reason_word(c) as usize))
 }
 
 // Row 7, for the unused cells of a half of the plan: those of block 1, or those of block 2.
