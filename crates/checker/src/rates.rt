@@ -7,7 +7,7 @@ ghost use Rattle.checker.specs.Flows.{row_of_free, row_of_reasons};
 ghost use Rattle.checker.specs.Found.{FirstThat};
 
 use crate::found::refused_if;
-use crate::side::{more_row, scaled, weigh_inputs, weigh_outputs};
+use crate::side::{more_row, scaled, weigh};
 use shares::reason::{OUTPUT, reason_by};
 use switch::plan::Plan;
 use switch::port::{Input, Output, cell};
@@ -104,8 +104,8 @@ pub fn rates(request: &Request, plan: &Plan) -> Verdict
     ensures { result ≡ rates_worked request.now plan.now }
 {
     let asked = scaled(&request.demands, plan.base);
-    let inputs = weigh_inputs(request, plan);
-    let outputs = weigh_outputs(request, plan);
+    let inputs = weigh::<Input>(Cause::InputOver, request.n, &request.inputs, plan);
+    let outputs = weigh::<Output>(Cause::OutputOver, request.m, &request.outputs, plan);
     let flows = Flows {
         request,
         plan,

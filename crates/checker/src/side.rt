@@ -6,7 +6,7 @@ ghost use Rattle.std.specs.List.{zip};
 ghost use Rattle.switch.specs.Rows.{row_verdict};
 ghost use Rattle.worked.specs.Port.{no_port, port_of};
 ghost use Rattle.worked.specs.Saturated.{capped};
-ghost use Rattle.worked.specs.Worked.{scaled, sums, levels, more_row, weighed, inputs_weighed, outputs_weighed};
+ghost use Rattle.worked.specs.Worked.{scaled, sums, levels, more_row, weighed};
 
 use crate::found::refused_if;
 use shares::arithmetic::times;
@@ -14,8 +14,7 @@ use shares::port::port;
 use shares::reason::level;
 use std::array;
 use switch::plan::Plan;
-use switch::port::{End, Input, Output};
-use switch::request::Request;
+use switch::port::End;
 use switch::verdict::{Cause, Verdict};
 use worked::port::Port;
 use worked::side::Weighed;
@@ -72,7 +71,7 @@ fn sums(ports: [Port; 8]) -> [u64; 8]
 }
 
 // What rows 12 to 15 ask of a side, whose ports have so many on the other side.
-fn weigh<P: End>(cause: Cause, count: u32, capacities: &[u32; 8], plan: &Plan) -> Weighed
+pub fn weigh<P: End>(cause: Cause, count: u32, capacities: &[u32; 8], plan: &Plan) -> Weighed
     ensures { result ≡ weighed cause capacities.now plan.now.base (λ k. port_of count (λ i. get_or plan.now.numerators (P.flow (P.numbered k) i) 0)) }
 {
     let full = scaled(capacities, plan.base);
@@ -81,16 +80,4 @@ fn weigh<P: End>(cause: Cause, count: u32, capacities: &[u32; 8], plan: &Plan) -
         over: more_row(cause, &full, &sums(ports)),
         levels: levels(&full, &ports),
     }
-}
-
-pub fn weigh_inputs(request: &Request, plan: &Plan) -> Weighed
-    ensures { result ≡ inputs_weighed request.now.n request.now.inputs plan.now.base plan.now.numerators }
-{
-    weigh::<Input>(Cause::InputOver, request.n, &request.inputs, plan)
-}
-
-pub fn weigh_outputs(request: &Request, plan: &Plan) -> Weighed
-    ensures { result ≡ outputs_weighed request.now.m request.now.outputs plan.now.base plan.now.numerators }
-{
-    weigh::<Output>(Cause::OutputOver, request.m, &request.outputs, plan)
 }
