@@ -48,7 +48,7 @@ struct Flows<'a> {
 
 impl Flows<'_> {
     // The search for row 14: the first flow that is below its demand and has no bottleneck. The walk over the outputs of the
-    // walk over the inputs is left with the cell.
+    // walk over the inputs is left with the cell: document 01 asks for this walk, left by a label.
     fn free_cell(&self) -> Option<usize>
         ensures { FirstThat 0 64 (row_of_free self.now).offends result }
     {
@@ -79,8 +79,8 @@ impl Flows<'_> {
         refused_if(Cause::NoBottleneck, self.free_cell())
     }
 
-    // Row 15. An unused cell has rate 0 of demand 0, and so its reason is 0. (Two loops, so that an input's level is read once:
-    // one loop over the cells makes the check of a plan file 5% dearer.)
+    // Row 15. An unused cell has rate 0 of demand 0, and so its reason is 0. (Two loops, and by number, since a row's level
+    // serves eight cells: one loop over the cells makes the check of a plan file 5% dearer.)
     fn reasons_row(&self) -> Verdict
         ensures { result ≡ row_verdict (row_of_reasons self.now) }
     {
