@@ -19,7 +19,8 @@ fn other<T: Copy + PartialEq>(part: &[T], none: T) -> Option<usize>
     part.iter().position(|x| *x != none)
 }
 
-// The first entry from `first` on and before `last` that is not `none`.
+// The first entry from `first` on and before `last` that is not `none`. (Not one function with the `first_above` of `requests`:
+// that one asks for a larger number, and this for another entry than none, of any type.)
 fn first_other<T: Copy + PartialEq>(table: &[T; 64], first: u64, last: u64, none: T) -> Option<u64>
     requires { last ≤ 64 }
     ensures { FirstThat first last (λ c. not (T.eq (get_or table.now c none) none)) result }
@@ -30,6 +31,7 @@ fn first_other<T: Copy + PartialEq>(table: &[T; 64], first: u64, last: u64, none
 }
 
 // The first unused cell of a half of the plan whose entry is not `none`. Unused cells are the last of each input's eight.
+// (A loop: of `find_map` with this closure no proof was found.)
 fn first_unused<T: Copy + PartialEq>(
     request: &Request,
     half: Half,
