@@ -1,14 +1,9 @@
--- Tables of a side's ports, and what is asked of them.
-use Prim.Native.Nat.{ℕ, ◌+◌, ◌<◌}
+-- What is asked of a side, from its table of ports.
+use Prim.Native.Nat.{ℕ, ◌<◌}
 use mathlib.Core.List.{List}
-use mathlib.Core.Logic.{◌⊎◌, inl, inr}
 use mathlib.Core.Path.{◌≡◌, sym, ◌∙◌, ap, ap₂}
-use native.Mathlib.Nat.{not-suc-le-zero}
-use native.Mathlib.Omega.{arith}
-use lib.ListN.{length, get_or, set, length-set}
-use lib.Seq.{get_or-set_same, get_or-set_other}
+use lib.ListN.{length, get_or}
 use Rattle.laws.proofs.Lists.{list_is, list_same}
-use Rattle.laws.proofs.Search.{eq_or_not}
 use Rattle.switch.specs.Rows.{row_verdict}
 use Rattle.switch.specs.declared.verdict.Cause.{Cause}
 use Rattle.switch.specs.declared.verdict.Verdict.{Verdict}
@@ -17,24 +12,6 @@ use Rattle.worked.specs.Worked.{scaled, sums, level_of, levels, more_row, weighe
 use Rattle.worked.specs.declared.port.Port.{Port}
 use Rattle.worked.specs.declared.side.Weighed.{Weighed}
 
--- The first n ports of the table are a rule's.
-pub record Ported (f : ℕ → Port) (n : ℕ) (ports : List Port) : Type 0 where
-  pub long : length ports ≡ 8
-  pub each : (k : ℕ) → k < n → get_or ports k no_port ≡ f k
-
-pub ported_none : (f : ℕ → Port) (ports : List Port) → length ports ≡ 8 → Ported f 0 ports
-ported_none f ports long = record { long = long; each = λ k h. absurd (not-suc-le-zero h) }
-
-pub ported_next : {f : ℕ → Port} {n : ℕ} {port : Port} {ports : List Port} → Ported f n ports → n < 8 → port ≡ f n
-    → Ported f (n + 1) (set ports n port)
-ported_next {f} {n} {port} {ports} so_far low e =
-    record { long = length-set ports n port ∙ so_far.long; each = λ k h. here k h (eq_or_not k n) }
-  where
-    here : (k : ℕ) → k < n + 1 → (k ≡ n) ⊎ (k ≡ n → ⊥) → get_or (set ports n port) k no_port ≡ f k
-    here k h (inl same) = rw same (get_or-set_same ports n port no_port (omega (arith, so_far.long)) ∙ e)
-    here k h (inr other) = get_or-set_other ports n k port no_port other ∙ so_far.each k (omega arith)
-
--- What is asked of a side, from its table of ports.
 module _ (cause : Cause) (capacities : List ℕ) (b : ℕ) (f : ℕ → Port) (ports : List Port) (full table added : List ℕ) (over : Verdict)
     (each : (k : ℕ) → k < 8 → get_or ports k no_port ≡ f k) (scaled_is : full ≡ scaled 8 b capacities)
     (added_long : length added ≡ 8) (added_are : (k : ℕ) → k < 8 → get_or added k 0 ≡ (get_or ports k no_port).sum)

@@ -8,6 +8,7 @@ use lib.Dec.{eqb, ltb}
 use borrow.Author.Tests.{lt-ltb, le-ltb}
 use Rattle.std.proofs.Common.{ne_eqb}
 use Rattle.std.specs.Prelude.{Option}
+use Rattle.std.specs.Option.{MatchOption, IsSomeAnd}
 use Rattle.std.specs.declared.option.Option.TheVariants.{Some, None}
 use Rattle.laws.proofs.Search.{le_or_lt}
 use Rattle.switch.specs.Halves.{half_number}
@@ -15,11 +16,10 @@ use Rattle.switch.specs.Rows.{Row, refusal, row_verdict}
 use Rattle.switch.specs.Tables.{used_at, used_end}
 use Rattle.switch.specs.declared.plan.Half.{Half}
 use Rattle.switch.specs.declared.plan.Half.TheVariants.{First, Second}
-use Rattle.switch.specs.declared.verdict.Verdict.TheVariants.{Accepted}
 use Rattle.switch.proofs.Search.{passed_none, passed_on, row_refuses, row_accepts}
 use Rattle.switch.proofs.Stretch.{used_before_end}
 use Rattle.judging.specs.PlanRows.{cell_in}
-use Rattle.checker.specs.Found.{FirstThat}
+use Rattle.checker.specs.Found.{FirstThat, refusal_of}
 
 pub half_below : (half : Half) → half_number half < 2
 half_below First = omega arith
@@ -75,20 +75,20 @@ module _ (m n u : ℕ) {end : ℕ} (low : u < 8) (ends : end ≡ used_end m n u)
 -- What the search of a half's cells says of a row of them.
 module _ (row : Row) (half : ℕ) (test : ℕ → Bool) (size : row.size ≡ 32)
     (same : (k : ℕ) → k < 32 → row.offends k ≡ test (cell_in half k)) where
-  pub half_accepts : (found : Option ℕ) → found ≡ None → FirstThat (32 * half) (32 * half + 32) test found
-      → row_verdict row ≡ Accepted
-  half_accepts found e none =
-      let all = subst (FirstThat (32 * half) (32 * half + 32) test) e none in
-      row_accepts
+  pub half_row : (place : ℕ → ℕ) → ((k : ℕ) → row.place k ≡ place (cell_in half k)) → (found word : Option ℕ)
+      → FirstThat (32 * half) (32 * half + 32) test found → (P : ℕ → ℕ → Type 0)
+      → MatchOption found (word ≡ None) (λ c. IsSomeAnd word (P c))
+      → ((c x : ℕ) → c < 32 * half + 32 → P c x → x ≡ place c) → refusal_of row.cause word ≡ row_verdict row
+  half_row place at None word all P e is =
+      ap (refusal_of row.cause) e
+      ∙ sym (row_accepts
       (passed_on row.size (passed_none row) (omega arith)
-      (λ k l h. same k (omega arith) ∙ all (cell_in half k) (omega arith) (omega arith))) (omega arith)
-
-  pub half_refuses : (c : ℕ) (found : Option ℕ) → found ≡ Some c → FirstThat (32 * half) (32 * half + 32) test found
-      → row_verdict row ≡ refusal row.cause (row.place (c - 32 * half))
-  half_refuses c found e sought =
-      let (low, high, here, before) = subst (FirstThat (32 * half) (32 * half + 32) test) e sought in
-      let at : cell_in half (c - 32 * half) ≡ c = omega arith in
-      row_refuses
+      (λ k l h. same k (omega arith) ∙ all (cell_in half k) (omega arith) (omega arith))) (omega arith))
+  half_row place at (Some c) (Some x) (low, high, here, before) P e is =
+      let cell : cell_in half (c - 32 * half) ≡ c = omega arith in
+      ap (refusal row.cause) (is c x high e ∙ ap place (sym cell) ∙ sym (at (c - 32 * half)))
+      ∙ sym (row_refuses
       (passed_on (c - 32 * half) (passed_none row) (omega arith)
       (λ k l h. same k (omega arith) ∙ before (cell_in half k) (omega arith) (omega arith))) (omega arith)
-      (same (c - 32 * half) (omega arith) ∙ subst (λ x. test x ≡ true) (sym at) here)
+      (same (c - 32 * half) (omega arith) ∙ subst (λ x. test x ≡ true) (sym cell) here))
+  half_row place at (Some c) None sought P e is = absurd e

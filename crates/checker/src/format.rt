@@ -7,6 +7,7 @@ ghost use Rattle.judging.specs.PlanRows.{first_word, unused_rates, unused_reason
 ghost use Rattle.judging.specs.Places.{reason_word};
 ghost use Rattle.checker.specs.Found.{FirstThat};
 
+use crate::found::refused_if;
 use switch::plan::{Half, Plan};
 use switch::port::{Input, used_end};
 use switch::request::Request;
@@ -18,7 +19,8 @@ fn other<T: Copy + PartialEq>(part: &[T], none: T) -> Option<usize>
     part.iter().position(|x| *x != none)
 }
 
-// The first entry from `first` on and before `last` that is not `none`.
+// The first entry from `first` on and before `last` that is not `none`. (Not one function with the `first_above` of `requests`:
+// that one asks for a larger number, and this for another entry than none, of any type.)
 fn first_other<T: Copy + PartialEq>(table: &[T; 64], first: u64, last: u64, none: T) -> Option<u64>
     requires { last ≤ 64 }
     ensures { FirstThat first last (λ c. not (T.eq (get_or table.now c none) none)) result }
@@ -29,6 +31,7 @@ fn first_other<T: Copy + PartialEq>(table: &[T; 64], first: u64, last: u64, none
 }
 
 // The first unused cell of a half of the plan whose entry is not `none`. Unused cells are the last of each input's eight.
+// (A loop: of `find_map` with this closure no proof was found.)
 fn first_unused<T: Copy + PartialEq>(
     request: &Request,
     half: Half,
@@ -67,19 +70,16 @@ fn reason_word(cell: u64) -> u64
 fn unused_rates(request: &Request, plan: &Plan, half: Half) -> Verdict
     ensures { result ≡ row_verdict (unused_rates request.now plan.now (half_number half)) }
 {
-    match first_unused(request, half, &plan.numerators, 0) {
-        Some(c) => refused(Cause::NotZero, first_word(c, plan.numerators[c as usize])),
-        None => Verdict::Accepted,
-    }
+    let found = first_unused(request, half, &plan.numerators, 0);
+    let word = found.map(|c| first_word(c, plan.numerators[c as usize]) as usize);
+    refused_if(Cause::NotZero, word)
 }
 
 fn unused_reasons(request: &Request, plan: &Plan, half: Half) -> Verdict
     ensures { result ≡ row_verdict (unused_reasons request.now plan.now (half_number half)) }
 {
-    match first_unused(request, half, &plan.reasons, 0) {
-        Some(c) => refused(Cause::NotZero, reason_word(c)),
-        None => Verdict::Accepted,
-    }
+    let found = first_unused(request, half, &plan.reasons, 0);
+    refused_if(Cause::NotZero, found.map(|c| reason_word(c) as usize))
 }
 
 // Row 7, for the unused cells of a half of the plan: those of block 1, or those of block 2.

@@ -7,7 +7,7 @@ ghost use Rattle.checker.specs.Flows.{row_of_free, row_of_reasons};
 ghost use Rattle.checker.specs.Found.{FirstThat};
 
 use crate::found::refused_if;
-use crate::side::{more_row, scaled, weigh_inputs, weigh_outputs};
+use crate::side::{more_row, scaled, weigh};
 use shares::reason::{OUTPUT, reason_by};
 use switch::plan::Plan;
 use switch::port::{Input, Output, cell};
@@ -48,7 +48,7 @@ struct Flows<'a> {
 
 impl Flows<'_> {
     // The search for row 14: the first flow that is below its demand and has no bottleneck. The walk over the outputs of the
-    // walk over the inputs is left with the cell.
+    // walk over the inputs is left with the cell: document 01 asks for this walk, left by a label.
     fn free_cell(&self) -> Option<usize>
         ensures { FirstThat 0 64 (row_of_free self.now).offends result }
     {
@@ -79,8 +79,8 @@ impl Flows<'_> {
         refused_if(Cause::NoBottleneck, self.free_cell())
     }
 
-    // Row 15. An unused cell has rate 0 of demand 0, and so its reason is 0. (Two loops, so that an input's level is read once:
-    // one loop over the cells makes the check of a plan file 5% dearer.)
+    // Row 15. An unused cell has rate 0 of demand 0, and so its reason is 0. (Two loops, and by number, since a row's level
+    // serves eight cells: one loop over the cells makes the check of a plan file 5% dearer.)
     fn reasons_row(&self) -> Verdict
         ensures { result ≡ row_verdict (row_of_reasons self.now) }
     {
@@ -104,8 +104,8 @@ pub fn rates(request: &Request, plan: &Plan) -> Verdict
     ensures { result ≡ rates_worked request.now plan.now }
 {
     let asked = scaled(&request.demands, plan.base);
-    let inputs = weigh_inputs(request, plan);
-    let outputs = weigh_outputs(request, plan);
+    let inputs = weigh::<Input>(Cause::InputOver, request.n, &request.inputs, plan);
+    let outputs = weigh::<Output>(Cause::OutputOver, request.m, &request.outputs, plan);
     let flows = Flows {
         request,
         plan,

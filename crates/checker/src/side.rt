@@ -5,51 +5,49 @@ ghost use Rattle.std.specs.Prelude.{◌≡◌, ◌*◌, ◌<◌, ℕ, ltb, posit
 ghost use Rattle.std.specs.List.{zip};
 ghost use Rattle.switch.specs.Rows.{row_verdict};
 ghost use Rattle.worked.specs.Port.{no_port, port_of};
-ghost use Rattle.worked.specs.Worked.{scaled, sums, levels, more_row, weighed, inputs_weighed, outputs_weighed};
+ghost use Rattle.worked.specs.Saturated.{capped};
+ghost use Rattle.worked.specs.Worked.{scaled, sums, levels, more_row, weighed};
 
 use crate::found::refused_if;
 use shares::arithmetic::times;
 use shares::port::port;
 use shares::reason::level;
+use std::array;
 use switch::plan::Plan;
-use switch::port::{End, Input, Output};
-use switch::request::Request;
+use switch::port::End;
 use switch::verdict::{Cause, Verdict};
 use worked::port::Port;
 use worked::side::Weighed;
 
-// A table of capacities or demands, over the base. (This table and the next two are filled by loops: no proof was found of
-// `array::from_fn` with a closure that captures two values.)
+// A table of capacities or demands, over the base.
 pub fn scaled<const N: usize>(table: &[u32; N], base: u64) -> [u64; N]
     ensures { result ≡ scaled N base table.now }
 {
-    let mut wide = [0; N];
-    for (i, x) in wide.iter_mut().enumerate() {
-        *x = times(table[i], base);
-    }
-    wide
+    array::from_fn(
+        |i|
+            requires { i < N }
+            ensures { result ≡ capped (get_or table.entry.now i 0 * base) }
+        { times(table[i], base) },
+    )
 }
 
 // The ports of a side.
 fn ports<P: End>(count: u32, numerators: &[u64; 64]) -> [Port; 8]
     ensures { (k : ℕ) → k < 8 → get_or result k no_port ≡ port_of count (λ i. get_or numerators.now (P.flow (P.numbered k) i) 0) }
 {
-    let mut ports = [Port { sum: 0, most: 0 }; 8];
-    for (k, one) in ports.iter_mut().enumerate() {
-        *one = port(count, numerators, P::numbered(k as u32));
-    }
-    ports
+    array::from_fn(
+        |k|
+            requires { k < 8 }
+            ensures { result ≡ port_of count (λ i. get_or numerators.entry.now (P.flow (P.numbered k) i) 0) }
+        { port(count, numerators, P::numbered(k as u32)) },
+    )
 }
 
 // From which numerator on each port holds a flow back.
 fn levels(full: &[u64; 8], ports: &[Port; 8]) -> [u64; 8]
     ensures { result ≡ levels full.now (λ k. get_or ports.now k no_port) }
 {
-    let mut levels = [0; 8];
-    for (k, one) in levels.iter_mut().enumerate() {
-        *one = level(full[k], ports[k]);
-    }
-    levels
+    array::from_fn(|k| level(full[k], ports[k]))
 }
 
 fn more<const N: usize>(most: &[u64; N], table: &[u64; N]) -> Option<usize>
@@ -73,7 +71,7 @@ fn sums(ports: [Port; 8]) -> [u64; 8]
 }
 
 // What rows 12 to 15 ask of a side, whose ports have so many on the other side.
-fn weigh<P: End>(cause: Cause, count: u32, capacities: &[u32; 8], plan: &Plan) -> Weighed
+pub fn weigh<P: End>(cause: Cause, count: u32, capacities: &[u32; 8], plan: &Plan) -> Weighed
     ensures { result ≡ weighed cause capacities.now plan.now.base (λ k. port_of count (λ i. get_or plan.now.numerators (P.flow (P.numbered k) i) 0)) }
 {
     let full = scaled(capacities, plan.base);
@@ -82,16 +80,4 @@ fn weigh<P: End>(cause: Cause, count: u32, capacities: &[u32; 8], plan: &Plan) -
         over: more_row(cause, &full, &sums(ports)),
         levels: levels(&full, &ports),
     }
-}
-
-pub fn weigh_inputs(request: &Request, plan: &Plan) -> Weighed
-    ensures { result ≡ inputs_weighed request.now.n request.now.inputs plan.now.base plan.now.numerators }
-{
-    weigh::<Input>(Cause::InputOver, request.n, &request.inputs, plan)
-}
-
-pub fn weigh_outputs(request: &Request, plan: &Plan) -> Weighed
-    ensures { result ≡ outputs_weighed request.now.m request.now.outputs plan.now.base plan.now.numerators }
-{
-    weigh::<Output>(Cause::OutputOver, request.m, &request.outputs, plan)
 }

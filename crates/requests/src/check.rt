@@ -47,7 +47,7 @@ fn capacity_row(request: &Request) -> Verdict
 fn demand_row(request: &Request) -> Verdict
     ensures { result ≡ row_verdict (demand_row request.now) }
 {
-    cells_over(DEMAND, request.m, request.n, &request.demands)
+    cells_over(DEMAND, request)
 }
 
 fn not_zero_row(request: &Request) -> Verdict
@@ -55,7 +55,7 @@ fn not_zero_row(request: &Request) -> Verdict
 {
     ports_over(ZERO, 3, request.m, &request.inputs)?;
     ports_over(ZERO, 11, request.n, &request.outputs)?;
-    cells_over(ZERO, request.m, request.n, &request.demands)
+    cells_over(ZERO, request)
 }
 
 // The first row that refuses counts.

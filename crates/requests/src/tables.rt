@@ -31,7 +31,8 @@ fn above(most: u32, part: &[u32]) -> Option<usize>
 }
 
 // The first of the entries from `first` on and before `last` that is more than `most`. Past its end a table counts as 0, which
-// is never more.
+// is never more. (Not one function with the checker's `first_other`: that one asks for another entry than none, of any type, and
+// this for a larger number.)
 fn first_above(most: u32, first: u64, last: u64, table: &[u32]) -> Option<u64>
     ensures { FoundAbove most first last table.now result }
 {
@@ -63,13 +64,14 @@ pub fn ports_over(bound: Bound, from: u32, count: u32, table: &[u32; 8]) -> Verd
     }
 }
 
-// The cells, in words from 19 on, input by input.
-pub fn cells_over(bound: Bound, m: u32, n: u32, table: &[u32; 64]) -> Verdict
-    ensures { result ≡ row_verdict (cells_over bound.cause 19 bound.used m n bound.most table.now) }
+// The cells, in words from 19 on, input by input. (A loop: of `find_map` with this closure no proof was found.)
+pub fn cells_over(bound: Bound, request: &Request) -> Verdict
+    ensures { result ≡ row_verdict (cells_over bound.cause 19 bound.used request.now.m request.now.n bound.most request.now.demands) }
 {
     for u in 0..8 {
         let first = 8 * u64::from(u);
-        if let Some(c) = first_over(bound, first, used_end(m, n, Input(u)), first + 8, table) {
+        let end = used_end(request.m, request.n, Input(u));
+        if let Some(c) = first_over(bound, first, end, first + 8, &request.demands) {
             return refused(bound.cause, 19 + c);
         }
     }

@@ -35,7 +35,7 @@ pub fn port<P: End>(count: u32, numerators: &[u64], p: P) -> Port
     port
 }
 
-// An input has a flow to each of n outputs.
+// An input has a flow to each of n outputs. (This and the next are public calls that docs/PROMISES.md names; both are `port`.)
 pub fn input_port(n: u32, numerators: &[u64], u: Input) -> Port
     ensures { result ≡ input_port n numerators.now u }
 {

@@ -22,7 +22,7 @@ pub const INPUT: u8 = 1;
 // Its input does not, so that its output does.
 pub const OUTPUT: u8 = 2;
 
-// The port is a bottleneck of a flow that has `x` over `base`.
+// The port is a bottleneck of a flow that has `x` over `base`. (Promised for any numbers: no `&Request`.)
 pub fn holds(port: Port, capacity: u32, demand: u32, base: u64, x: u64) -> bool
     ensures { result ≡ holds port capacity demand base x }
 {
@@ -30,7 +30,8 @@ pub fn holds(port: Port, capacity: u32, demand: u32, base: u64, x: u64) -> bool
 }
 
 // From which numerator on a port holds a flow back, if it is full with `full`: a port that is not full holds back none, and no
-// flow below its demand has the largest number of all.
+// flow below its demand has the largest number of all. (No `Option`: `level_of`, which keeps its meaning, answers a number, and
+// one test holds a flow against it.)
 pub fn level(full: u64, port: Port) -> u64
     ensures { result ≡ level_of full port.sum port.most }
 {
@@ -52,6 +53,7 @@ pub fn reason_by(asked: u64, entering: u64, x: u64) -> u8
     if entering <= x { INPUT } else { OUTPUT }
 }
 
+// The reason of a flow, by its input. (Promised for any numbers: no `&Request`.)
 pub fn reason(input: Port, capacity: u32, demand: u32, base: u64, x: u64) -> u8
     ensures { result ≡ reason_from input capacity demand base x }
 {

@@ -25,3 +25,4 @@ pub mod Shown
 pub mod Entitlement
 pub mod Drawn
 pub mod Values
+pub mod Made

@@ -11,6 +11,7 @@ pub struct Output(pub u32);
 
 // One end of a flow, an input or an output: what the walks over ports and over a port's flows need to know of it.
 pub trait End: Copy {
+    // The port of a number. (No `From<u32>`: clauses name its answer.)
     ghost numbered: { ℕ → Self };
 
     // The cell of the flow between this port and port k of the other side.

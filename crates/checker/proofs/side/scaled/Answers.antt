@@ -1,7 +1,7 @@
--- After the last number the table is full.
-use Rattle.std.proofs.Common.{arith}
-use Rattle.laws.proofs.Filled.{filled_all}
+-- Each number of the table is one over the base.
+use Rattle.std.proofs.Common.{rules}
+use Rattle.switch.proofs.Made.{made_by}
 use Rattle.checker.proofs.side.scaled.Goals as goal
 
 pub returns : goal.returns
-returns g c = filled_all c.loop-i.invariant (omega arith)
+returns g c = made_by _ _ _ _ (λ i y t h called. search rules) c.from_fn.ensures.items

@@ -1,6 +1,6 @@
 -- `table` meets its contract: each number of the table is a word.
 use Rattle.std.proofs.Common.{rules}
-use Rattle.files.proofs.Made.{made_by}
+use Rattle.switch.proofs.Made.{made_by}
 use Rattle.files.proofs.read.table.Goals as goal
 
 pub returns : goal.returns

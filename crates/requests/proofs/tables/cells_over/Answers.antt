@@ -25,18 +25,20 @@ sought cause used m n most xs u {first} {end} {found} answer h same e f is =
 pub returns-in-Some : goal.returns-in-Some
 returns-in-Some c =
     let a = c.args in
-    let end = end_within a.m a.n c.loop-u.u in
-    let s = sought a.bound.cause a.bound.used a.m a.n a.bound.most a.table.now c.loop-u.u _ c.loop-u-test.true c.from-first.ensures
-    c.used_end.ensures c.first_over.ensures c.in-Some.is in
-    let limit = within_stretch a.bound.used {end = c.used_end.result} {last = 8 * c.from-first.result + 8} (omega (arith, end)) in
+    let r = a.request.now in
+    let end = end_within r.m r.n c.loop-u.u in
+    let s = sought a.bound.cause a.bound.used r.m r.n a.bound.most r.demands c.loop-u.u _ c.loop-u-test.true c.from-first.ensures
+    c.used_end-end.ensures c.first_over.ensures c.in-Some.is in
+    let limit = within_stretch a.bound.used {end = c.used_end-end.result} {last = 8 * c.from-first.result + 8} (omega (arith, end)) in
     c.refused.ensures ∙ sym (sought_refuses c.loop-u.invariant s (omega (arith, c.in-Some.ensures.1, limit)))
 
 pub loop-u-preserved : goal.loop-u-preserved
 loop-u-preserved c =
     let a = c.args in
-    let s = sought a.bound.cause a.bound.used a.m a.n a.bound.most a.table.now c.loop-u.u _ c.loop-u-test.true c.from-first.ensures
-    c.used_end.ensures c.first_over.ensures c.in_default.is in
-    subst (Passed (cells_over a.bound.cause 19 a.bound.used a.m a.n a.bound.most a.table.now)) (omega arith)
+    let r = a.request.now in
+    let s = sought a.bound.cause a.bound.used r.m r.n a.bound.most r.demands c.loop-u.u _ c.loop-u-test.true c.from-first.ensures
+    c.used_end-end.ensures c.first_over.ensures c.in_default.is in
+    subst (Passed (cells_over a.bound.cause 19 a.bound.used r.m r.n a.bound.most r.demands)) (omega arith)
     (sought_more c.loop-u.invariant s (omega arith) (omega arith))
 
 pub returns : goal.returns

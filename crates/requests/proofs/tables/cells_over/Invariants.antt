@@ -5,4 +5,5 @@ use Rattle.switch.proofs.Search.{Passed}
 use Rattle.requests.proofs.tables.cells_over.Given as goal
 
 abbrev pub invariant-loop-u : goal.invariant-loop-u
-invariant-loop-u l = Passed (cells_over l.bound.cause 19 l.bound.used l.m l.n l.bound.most l.table) (8 * l.u)
+invariant-loop-u l =
+    let r = l.request in Passed (cells_over l.bound.cause 19 l.bound.used r.m r.n l.bound.most r.demands) (8 * l.u)
