@@ -13,6 +13,7 @@ pub mod Halves
 pub mod Numbering
 pub mod Rows
 pub mod Heard
+pub mod Told
 pub mod Given
 pub mod RequestRows
 pub mod Fault

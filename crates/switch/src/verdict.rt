@@ -1,8 +1,9 @@
 // A verdict: acceptance, or the refusal together with its place. A cause is a row of the refusal table.
-ghost use Rattle.std.specs.Prelude.{◌≡◌};
+ghost use Rattle.std.specs.Prelude.{◌≡◌, Some};
 ghost use Rattle.switch.specs.Numbering.{number_of};
 ghost use Rattle.switch.specs.Rows.{refusal, refused_by, or_else};
 ghost use Rattle.switch.specs.Heard.{goes_on};
+ghost use Rattle.switch.specs.Told.{refusal_told, verdict_told};
 
 use std::fmt;
 use std::ops::{ControlFlow, FromResidual, Try};
@@ -82,7 +83,7 @@ impl Try for Verdict {
         }
     }
 
-    fn from_output(_output: ()) -> Verdict {
+    fn from_output((): ()) -> Verdict {
         Verdict::Accepted
     }
 }
@@ -96,12 +97,16 @@ impl FromResidual<Refusal> for Verdict {
 }
 
 impl fmt::Display for Refusal {
+    ghost output = { λ refusal. Some (refusal_told refusal) };
+
     fn fmt<W: fmt::Write>(&self, f: &mut fmt::Formatter<W>) -> fmt::Result {
         write!(f, "refused {} {}", self.cause.number(), self.place)
     }
 }
 
 impl fmt::Display for Verdict {
+    ghost output = { λ verdict. Some (verdict_told verdict) };
+
     fn fmt<W: fmt::Write>(&self, f: &mut fmt::Formatter<W>) -> fmt::Result {
         match self {
             Verdict::Accepted => f.write_str("accepted"),
