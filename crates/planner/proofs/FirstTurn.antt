@@ -1,5 +1,5 @@
 -- The engine before its first turn.
-use Prim.Native.Nat.{ℕ}
+use Prim.Native.Nat.{ℕ, ◌≤◌}
 use mathlib.Core.Path.{◌≡◌, sym, ap, ◌∙◌}
 use mathlib.Core.Bool.{Bool, true, false, cond}
 use mathlib.Core.List.{List}
@@ -12,6 +12,7 @@ use Rattle.laws.proofs.Lists.{cells-list, length-list}
 use Rattle.fairness.specs.Filling.{start}
 use Rattle.fairness.proofs.Filling.{between_at_start}
 use Rattle.fairness.specs.Problem.{Problem}
+use Rattle.planner.specs.Sizes.{most_base}
 use Rattle.planner.specs.Limits.{problem}
 use Rattle.planner.specs.Tables.{Roomy, Shared}
 use Rattle.planner.specs.Engine.{sharing, state_of, Engaged, Modest, Started, start_stage}
@@ -32,9 +33,9 @@ module _ (f : Flows) (capacities : List ℕ) (modest : Modest (sharing f capacit
   abbrev P : Problem
   P = sharing f capacities
 
-  pub engaged_start : (held : Bool) (old new : Tables) → old.left ≡ capacities → Started f held old new
-      → Engaged f capacities (record { held = held; base = 1; least = 0; levels = replicate 20 0; tables = new })
-  engaged_start held old new full out =
+  pub engaged_start : {small : 1 ≤ most_base} (held : Bool) (old new : Tables) → old.left ≡ capacities → Started f held old new
+      → Engaged f capacities (record { held = held; base = 1; least = 0; levels = replicate 20 0; tables = new; base_small = small })
+  engaged_start {small} held old new full out =
       record {
         between = rw at_start (between_at_start _ modest.sound);
         kept =

@@ -38,7 +38,7 @@ use Rattle.planner.proofs.Events.{state_shut, state_free}
 use Rattle.planner.proofs.Kept.{kept_met, met_fits, kept_shut, shut_fits, kept_free}
 use Rattle.planner.proofs.NextLevel.{limits_same, flows_same}
 use Rattle.planner.proofs.LastTurn.{limits_now, levels_listed}
-use Rattle.planner.proofs.Bounds.{base_small, met_covered, shut_covered, weight_small, minimum_small}
+use Rattle.planner.proofs.Bounds.{base_small, met_covered, shut_covered, weight_small, minimum_small, state_base_small}
 
 taken_alike : {cards : Bool} {x y : ℕ → ℕ} {old new : List ℕ} → ((c : ℕ) → c < 64 → x c ≡ y c) → Taken cards 64 x old new
     → Taken cards 64 y old new
@@ -222,13 +222,9 @@ module _ {f : Flows} {capacities : List ℕ} {at : Filling} {e : Level} (turn : 
 
   -- After the walk that stops them.
   module _ (new : Filling) (lighter : Light 64 new.least demands new.tables.stages) (swept : MetTo f b e 64 at.tables new.tables)
-      (as_it_was : new ≡ record at { least = new.least; tables = new.tables }) where
+      (kept : (new.held ≡ at.held) × (new.base ≡ at.base) × (new.levels ≡ at.levels)) where
     abbrev stages' : List ℕ
     stages' = new.tables.stages
-
-    -- the base and the levels stand
-    abbrev after : Filling
-    after = record at { least = new.least; tables = new.tables }
 
     stages_met : stages' ≡ met_stages (meets P s (next_of e)) stages
     stages_met =
@@ -244,32 +240,31 @@ module _ {f : Flows} {capacities : List ℕ} {at : Filling} {e : Level} (turn : 
     state_after = state_met cards capacities demands minima weights b stages levels (next_of e) stages_met
 
     engaged_after : Between P (state_of P b stages' levels)
-        → Engaged f capacities after
+        → Engaged f capacities new
     engaged_after between =
         record {
-          between = between;
-          kept = rw state_after kept_after;
+          between = rw (kept.1, kept.2) between;
+          kept = rw (kept.1, kept.2, state_after) kept_after;
           done = rw stages_met (done_met P stages now.done (meets P s (next_of e)));
           light = lighter;
           unheld = λ n c hc q.
-              now.unheld n c hc
+              now.unheld (sym kept.0 ∙ n) c hc
               (waited_before (met_at b e.high e.parts demands weights stages c) (cells stages c)
               (sym (swept.marked.before c hc) ∙ q));
-          high = now.high;
-          long = (swept.marked.long, now.long.1, swept.taken.long, swept.freed.long);
+          high = rw (kept.1, kept.2) now.high;
+          long = (swept.marked.long, ap length kept.2 ∙ now.long.1, swept.taken.long, swept.freed.long);
         }
 
     -- Some flow has stopped.
     pub met_turn : some 64 (met_at b e.high e.parts demands weights stages) ≡ true → Onward f capacities at new
     met_turn t =
-        let yes = sym some_same ∙ t in
-        subst (λ (x : Filling). Onward f capacities at x) (sym as_it_was) (
+        let yes = sym some_same ∙ t in (
           engaged_after (rw state_after (after_met yes)),
-          rw state_after (subst (λ (x : State). work P x < work P s) (round_met P s (next_of e) yes) further.1),
+          rw (kept.1, kept.2, state_after) (subst (λ (x : State). work P x < work P s) (round_met P s (next_of e) yes) further.1),
         )
 
     -- None has: the level stands, and what happens there is yet to come.
-    pub unmet_turn : some 64 (met_at b e.high e.parts demands weights stages) ≡ false → Engaged f capacities after × (stages' ≡ stages)
+    pub unmet_turn : some 64 (met_at b e.high e.parts demands weights stages) ≡ false → Engaged f capacities new × (stages' ≡ stages)
     unmet_turn unmet =
         let same = stages_met ∙ state_met_none cards capacities demands minima weights b stages levels (next_of e) (sym some_same ∙ unmet) now.long.0 in
         (engaged_after (rw same now.between), same)
@@ -278,19 +273,16 @@ module _ {f : Flows} {capacities : List ℕ} {at : Filling} {e : Level} (turn : 
     pub unmet_on : some 64 (met_at b e.high e.parts demands weights stages) ≡ false
         → Turn f capacities new e × (some 64 (meets P (state_at P new) (next_of e)) ≡ false) × (state_at P new ≡ s)
     unmet_on unmet =
-        let still = (unmet_turn unmet).1 in
-        subst
-        (λ (x : Filling). Turn f capacities x e × (some 64 (meets P (state_at P x) (next_of e)) ≡ false) × (state_at P x ≡ s))
-        (sym as_it_was) (
+        let still = (unmet_turn unmet).1 in (
           record {
             modest = modest;
             now = (unmet_turn unmet).0;
-            is = subst (λ (st : List ℕ). next_of e ≡ next P (state_of P b st levels)) (sym still) is;
+            is = rw (kept.1, kept.2) (subst (λ (st : List ℕ). next_of e ≡ next P (state_of P b st levels)) (sym still) is);
             pos = pos;
           },
-          subst (λ (st : List ℕ). some 64 (meets P (state_of P b st levels) (next_of e)) ≡ false) (sym still)
-              (sym some_same ∙ unmet),
-          ap (λ (st : List ℕ). state_of P b st levels) still,
+          rw (kept.1, kept.2) (subst (λ (st : List ℕ). some 64 (meets P (state_of P b st levels) (next_of e)) ≡ false) (sym still)
+              (sym some_same ∙ unmet)),
+          rw (kept.1, kept.2) (ap (λ (st : List ℕ). state_of P b st levels) still),
         )
 
   -- What happens at the level, if no flow meets its demand there.
@@ -348,6 +340,7 @@ module _ {f : Flows} {capacities : List ℕ} {at : Filling} {e : Level} (turn : 
             listed = found.0;
             levels = levels_listed modest now;
             left = (limits_now modest now).left;
+            small = rw (base_shut P b stages levels (next_of e) limit) at (state_base_small P _ modest shut_further.0);
             room = room_shut;
             room_parts =
                 record {

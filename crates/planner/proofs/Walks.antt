@@ -148,6 +148,12 @@ module _ (cards : Bool) (stage x weight : ℕ → ℕ) (old new : Tables) where
         freed = taken_past cards weight old.parts new.parts i j h (λ c g l. (same c g l).2) so_far.freed;
       }
 
+-- The first i entries of a list have been multiplied by k.
+pub record Multiplied (i k : ℕ) (old new : List ℕ) : Type 0 where
+  pub long : length new ≡ length old
+  pub each : (l : ℕ) → l < i → cells new l ≡ cells old l * k
+  pub rest : (l : ℕ) → i ≤ l → cells new l ≡ cells old l
+
 -- One more entry of a table of the limits is multiplied, and what has room once all are.
 -- Stands because docs/PORT-NAMES.md names these; no function cites them today.
 pub scaled_none : (k : ℕ) (t : List ℕ) → length t ≡ 20 → Scaled 0 k t t

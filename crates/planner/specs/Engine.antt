@@ -260,6 +260,7 @@ pub record ShutReady (f : Flows) (l : ℕ) (level : Level) (at : Filling) : Type
   pub listed : l < limits_of f.cards
   pub levels : Bounded (limits_of f.cards) most_high at.levels
   pub left : Bounded (limits_of f.cards) most_high at.tables.left
+  pub small : at.base * level.parts ≤ most_base
   pub room : RoomyBy f.cards level.parts (halt_rate l level.high f.weights.now at.tables.stages) at.tables.left
   pub room_parts : Roomy f.cards (halt_weight l f.weights.now at.tables.stages) at.tables.parts
 

@@ -86,12 +86,6 @@ pub record Scaled (count k : ℕ) (old new : List ℕ) : Type 0 where
   pub each : (l : ℕ) → l < count → cells new l ≡ cells old l * k
   pub rest : (l : ℕ) → count ≤ l → cells new l ≡ cells old l
 
--- The same of a list of any length.
-pub record Multiplied (i k : ℕ) (old new : List ℕ) : Type 0 where
-  pub long : length new ≡ length old
-  pub each : (l : ℕ) → l < i → cells new l ≡ cells old l * k
-  pub rest : (l : ℕ) → i ≤ l → cells new l ≡ cells old l
-
 -- How far a walk over the cells has come: the first i flows have been given what the rules say.
 pub record Swept (cards : Bool) (i : ℕ) (stage x weight : ℕ → ℕ) (old new : Tables) : Type 0 where
   pub marked : Marked i stage old.stages new.stages

@@ -13,7 +13,7 @@ use crate::stage::{Kind, Stage};
 impl Filling {
     // The flow of a cell, which waited at its minimum, begins to rise. It may ask for less than any that rose before.
     fn free(&mut self, flows: &Flows, cell: usize)
-        requires { (cell < 64) × (self.old.base ≤ most_base) × Holds flows.now.cards cell (cells flows.now.minima.now cell * self.old.base) self.old.tables.left × Holds flows.now.cards cell (cells flows.now.weights.now cell) self.old.tables.parts }
+        requires { (cell < 64) × Holds flows.now.cards cell (cells flows.now.minima.now cell * self.old.base) self.old.tables.left × Holds flows.now.cards cell (cells flows.now.weights.now cell) self.old.tables.parts }
         ensures { Freed flows.now cell self.old self.new }
     {
         let x = u64::from(flows.minima[cell]) * self.base;
@@ -26,7 +26,7 @@ impl Filling {
 
     // The event of a level takes place.
     pub fn happen(&mut self, flows: &Flows, level: Level)
-        requires { (self.old.base ≤ most_base) × FillsReady flows.now level self.old × ReachesReady flows.now level self.old }
+        requires { FillsReady flows.now level self.old × ReachesReady flows.now level self.old }
         ensures { Happened flows.now level self.old self.new }
     {
         match level.event {

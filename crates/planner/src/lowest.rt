@@ -64,7 +64,7 @@ impl Tables {
 impl Filling {
     // The lowest level of all, if anything can happen. Flows are searched only if some flow had a minimum at the start.
     pub fn next_level(&self, flows: &Flows) -> Option<Level>
-        requires { (self.now.base ≤ most_base) × LimitsSmall flows.now.cards self.now.tables }
+        requires { LimitsSmall flows.now.cards self.now.tables }
         ensures { Found (next_event flows.now self.now) result }
     {
         let first = self.tables.lowest_limit(flows);

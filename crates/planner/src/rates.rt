@@ -11,7 +11,7 @@ use crate::stage::Kind;
 impl Filling {
     // What a flow has is told by its stage: the level of the limit that stopped it, its demand, or its minimum.
     fn rate(&self, flows: &Flows, cell: usize) -> u64
-        requires { (cell < 64) × (self.now.base ≤ most_base) × Bounded 20 most_high self.now.levels }
+        requires { (cell < 64) × Bounded 20 most_high self.now.levels }
         ensures { result ≡ rate_in flows.now self.now cell }
     {
         match self.tables.stages[cell].kind() {
@@ -24,7 +24,7 @@ impl Filling {
 
     // Nothing but stages and levels was kept on the way, so every numerator is worked out once, over the last base.
     pub fn rates(&self, flows: &Flows, numerators: &mut [u64; 64])
-        requires { (self.now.base ≤ most_base) × Bounded 20 most_high self.now.levels }
+        requires { Bounded 20 most_high self.now.levels }
         ensures { numerators.new ≡ rates_at flows.now self.now }
     {
         for (cell, numerator) in numerators.iter_mut().enumerate() {

@@ -1,9 +1,9 @@
 // A limit fills, and every flow that passes it stops.
-ghost use Rattle.std.specs.Prelude.{◌≤◌, ◌<◌, ◌≡◌, length};
+ghost use Rattle.std.specs.Prelude.{◌≤◌, ◌<◌, ◌≡◌};
 ghost use Rattle.planner.specs.Sizes.{most_base, most_high, most_parts};
 ghost use Rattle.planner.specs.Limits.{limits_of, through};
 ghost use Rattle.planner.specs.Areas.{on_card, area_of};
-ghost use Rattle.planner.specs.Tables.{Bounded, Multiplied};
+ghost use Rattle.planner.specs.Tables.{Bounded, Scaled};
 ghost use Rattle.planner.specs.Engine.{HaltRoomAt, HaltedAt, HaltRoom, HaltTo, ShutReady, Shut};
 
 use crate::filling::Filling;
@@ -88,12 +88,13 @@ impl Tables {
     }
 }
 
-// Multiplies every entry of the front of a table.
-fn scale(k: u64, front: &mut [u64])
-    requires { Bounded (length front.old) most_high front.old × (k ≤ most_parts) }
-    ensures { Multiplied (length front.old) k front.old front.new }
+// Multiplies the front of a table. (Not lent as a slice: where a struct has a ghost field, as `base_small`, the borrow checker has
+// no rule yet for lending a part of the array in another field.)
+fn scale(count: usize, k: u64, table: &mut [u64; 20])
+    requires { (count ≤ 20) × Bounded count most_high table.old × (k ≤ most_parts) }
+    ensures { Scaled count k table.old table.new }
 {
-    for entry in front {
+    for entry in &mut table[..count] {
         *entry *= k;
     }
 }
@@ -101,13 +102,13 @@ fn scale(k: u64, front: &mut [u64])
 impl Filling {
     // A limit fills at a level. The base grows by the level's parts, so that the level is a whole number.
     pub fn shut(&mut self, flows: &Flows, limit: usize, level: Level)
-        requires { (self.old.base ≤ most_base) × ShutReady flows.now limit level self.old }
+        requires { ShutReady flows.now limit level self.old }
         ensures { Shut flows.now limit level self.old self.new }
     {
         let count = flows.limits();
         self.base *= level.parts;
-        scale(level.parts, &mut self.levels[..count]);
-        scale(level.parts, &mut self.tables.left[..count]);
+        scale(count, level.parts, &mut self.levels);
+        scale(count, level.parts, &mut self.tables.left);
         self.levels[limit] = level.high;
         self.tables.halt_all(flows, limit, level);
     }

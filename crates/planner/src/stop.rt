@@ -81,11 +81,11 @@ impl Filling {
     // The same, but the walk is spared where no rising flow can have its demand yet: none asks for less than the least, and none
     // weighs more than the heaviest. Answers whether some flow has stopped.
     pub fn stop_some(&mut self, flows: &Flows, level: Level) -> bool
-        requires { (self.old.base ≤ most_base) × Light 64 self.old.least flows.now.demands.now self.old.tables.stages × MetRoom flows.now self.old.base level self.old.tables }
+        requires { Light 64 self.old.least flows.now.demands.now self.old.tables.stages × MetRoom flows.now self.old.base level self.old.tables }
         ensures any_value { result ≡ some 64 (meets_at flows.now self.old.base level self.old.tables) }
         ensures light { Light 64 self.new.least flows.now.demands.now self.new.tables.stages }
         ensures swept { MetTo flows.now self.old.base level 64 self.old.tables self.new.tables }
-        ensures kept { self.new ≡ record self.old { least = self.new.least; tables = self.new.tables } }
+        ensures kept { (self.new.held ≡ self.old.held) × (self.new.base ≡ self.old.base) × (self.new.levels ≡ self.old.levels) }
     {
         if level.high * flows.heaviest < self.least * (self.base * level.parts) {
             return false;

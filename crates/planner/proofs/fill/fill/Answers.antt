@@ -12,8 +12,8 @@ use Rattle.planner.proofs.FirstTurn.{engaged_start}
 use Rattle.planner.proofs.fill.fill.Goals as goal
 
 -- The flows are set out and the turns are over.
-ended : (f : Flows) (old : Tables) {held : Bool} {new : Tables} {end : Filling} → Modest (sharing f old.left) f.heaviest
-    → Started f held old new → Finished f (record { held = held; base = 1; least = 0; levels = replicate 20 0; tables = new }) end
+ended : (f : Flows) (old : Tables) {small : 1 ≤ most_base} {held : Bool} {new : Tables} {end : Filling} → Modest (sharing f old.left) f.heaviest
+    → Started f held old new → Finished f (record { held = held; base = 1; least = 0; levels = replicate 20 0; tables = new; base_small = small }) end
     → (end.base ≤ most_base) × Bounded 20 most_high end.levels × Fair (sharing f old.left) (over end.base (rates_at f end))
 ended f old modest out over = over.each old.left modest (engaged_start f old.left modest _ old _ refl out)
 
@@ -26,7 +26,7 @@ turns-requires c =
     }
 
 pub rates-requires : goal.rates-requires
-rates-requires c = let end = ended c.args.flows.now _ c.requires c.start.ensures c.turns.ensures in (end.0, end.1)
+rates-requires c = let end = ended c.args.flows.now _ c.requires c.start.ensures c.turns.ensures in end.1
 
 pub returns : goal.returns
 returns c =

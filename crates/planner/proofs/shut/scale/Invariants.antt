@@ -1,5 +1,5 @@
 -- The entries before this one are multiplied, and the others are as they were.
-use Rattle.planner.specs.Tables.{Multiplied}
+use Rattle.planner.proofs.Walks.{Multiplied}
 use Rattle.planner.proofs.shut.scale.Given as goal
 
 abbrev pub invariant-loop-entry : goal.invariant-loop-entry

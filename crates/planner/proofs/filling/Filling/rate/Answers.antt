@@ -8,4 +8,4 @@ pub overflow_mul-result : goal.overflow_mul-result
 overflow_mul-result c =
     let light : c.from.result ≤ most_parts =
     omega (arith, c.from.ensures, c.args.flows.now.weights_small.each c.args.cell c.requires.0) in
-    omega (arith, mul-le-mul light (c.requires.2.each c.in-Stopped.limit c.in-Stopped.ensures.numbered))
+    omega (arith, mul-le-mul light (c.requires.1.each c.in-Stopped.limit c.in-Stopped.ensures.numbered))

@@ -12,7 +12,7 @@ none : (c : Then-level-flows) (i : ℕ) → i < 64
     ≡ false
 none c =
     none_met c.args.self.now.base c.args.level.high c.args.level.parts c.args.flows.now.heaviest c.args.self.now.least
-    c.args.flows.now.demands.now c.args.flows.now.weights.now c.args.self.now.tables.stages c.requires.1
+    c.args.flows.now.demands.now c.args.flows.now.weights.now c.args.self.now.tables.stages c.requires.0
     c.args.flows.now.none_heavier c.if-level-flows.true
 
 pub returns-then-level-flows-clause-any_value : goal.returns-then-level-flows-clause-any_value
@@ -22,4 +22,4 @@ returns-then-level-flows-clause-any_value c =
 pub returns-then-level-flows-clause-swept : goal.returns-then-level-flows-clause-swept
 returns-then-level-flows-clause-swept c =
     swept_unmet c.args.flows.now c.args.self.now.base c.args.level c.args.self.now.tables
-    (none (goal.at.returns-then-level-flows-clause-swept c).Then-level-flows) (search rules) c.requires.2.0.long c.requires.2.1.long
+    (none (goal.at.returns-then-level-flows-clause-swept c).Then-level-flows) (search rules) c.requires.1.0.long c.requires.1.1.long

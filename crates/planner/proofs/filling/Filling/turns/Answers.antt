@@ -29,7 +29,7 @@ module _ (c : At-turns) where
 pub next_level-requires : goal.next_level-requires
 next_level-requires c =
     let l = (goal.at.next_level-requires c).At-turns in
-    (base_now (fit l) (engaged l), limits_now (fit l) (engaged l))
+    limits_now (fit l) (engaged l)
 
 -- Nothing can happen any more.
 pub returns : goal.returns
@@ -47,7 +47,7 @@ pub stop_some-met-requires : goal.stop_some-met-requires
 stop_some-met-requires c =
     let l = (goal.at.stop_some-met-requires c).At-turns in
     let one = turn l c.in-Some.level c.in-Some.ensures (fit l) (engaged l) in
-    (base_now (fit l) (engaged l), (engaged l).light, room_met one)
+    ((engaged l).light, room_met one)
 
 -- The flows that meet their demands have stopped.
 pub turns-smaller : goal.turns-smaller
@@ -75,7 +75,7 @@ happen-requires c =
     let met = c.stop_some-met.ensures in
     let on = unmet_on one c.stop_some-met.new.self met.light met.swept met.kept (sym met.any_value ∙ c.if-not-met.true) in
     let ready = happen_ready on.0 on.1 in
-    (base_now (fit l) on.0.now, ready.0, ready.1)
+    (ready.0, ready.1)
 
 -- What the level stands for has happened.
 pub turns-smaller-then-not-met : goal.turns-smaller-then-not-met
