@@ -208,7 +208,7 @@ module _ {f : Flows} {capacities : List ℕ} {at : Filling} {e : Level} (turn : 
       go l h (inr f) =
           omega (arith, total-zero 64 (through l) _ (λ c hc m. ap (λ (t : Bool). on t (P.demand c * b)) (none_of_some 64 _ f c hc)))
 
-  room_met_parts : Roomy cards (met_weight b e demands weights stages) parts
+  pub room_met_parts : Roomy cards (met_weight b e demands weights stages) parts
   room_met_parts =
       record {
         long = now.long.3;
