@@ -22,7 +22,8 @@ impl Filling {
         }
     }
 
-    // Nothing but stages and levels was kept on the way, so every numerator is worked out once, over the last base.
+    // Nothing but stages and levels was kept on the way, so every numerator is worked out once, over the last base. (That
+    // the levels are small holds at the end of all turns and not between them, so it is a clause and no ghost field.)
     pub fn rates(&self, flows: &Flows, numerators: &mut [u64; 64])
         requires { Bounded 20 most_high self.now.levels }
         ensures { numerators.new ≡ rates_at flows.now self.now }

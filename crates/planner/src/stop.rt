@@ -22,7 +22,7 @@ pub struct Met {
 }
 
 impl Tables {
-    // Gives the flow of a cell its rate, and marks why it stopped.
+    // Gives the flow of a cell its rate, and marks why it stopped. (Why, the rate and the weight go together nowhere else.)
     pub fn stop(&mut self, flows: &Flows, cell: usize, kind: Kind, x: u64, weight: u64)
         requires { (cell < 64) × Numbered kind × Spares flows.now.cards cell x weight self.old }
         ensures { Halted flows.now.cards cell (number_of kind) x weight self.old self.new }
@@ -32,7 +32,8 @@ impl Tables {
         flows.take(cell, weight, &mut self.parts);
     }
 
-    // Stops the flow of a cell at its demand, if it rises and has its demand at or below the level.
+    // Stops the flow of a cell at its demand, if it rises and has its demand at or below the level. (The base is handed in, since a
+    // walk over the tables does not see the filling that they are in.)
     fn meet(&mut self, flows: &Flows, cell: usize, base: u64, level: Level, met: Met) -> Met
         requires { (cell < 64) × (base ≤ most_base) × MetRoomAt flows.now base level cell self.old }
         ensures any_value { result.any ≡ (meets_at flows.now base level self.old cell || met.any) }

@@ -43,7 +43,7 @@ fn first_above(most: u32, first: u64, last: u64, table: &[u32]) -> Option<u64>
 }
 
 // The same for a stretch of a table in which the entries before `end` are the used ones: only those are looked at of which
-// the row speaks.
+// the row speaks. (The three ends of a stretch and its table go together nowhere else.)
 fn first_over(bound: Bound, first: u64, end: u64, last: u64, table: &[u32]) -> Option<u64>
     ensures { FoundAbove bound.most (cond bound.used first end) (cond bound.used end last) table.now result }
 {
