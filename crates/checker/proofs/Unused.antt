@@ -45,9 +45,6 @@ module _ (m n u : ℕ) {end : ℕ} (low : u < 8) (ends : end ≡ used_end m n u)
       go (inl past) = rw (split k l h ∙ le-ltb k end past, none past)
       go (inr used) = rw (split k l h ∙ lt-ltb k end used)
 
-  offends : (k : ℕ) → end ≤ k → k < 8 * u + 8 → test k ≡ true → unused_that m n test k ≡ true
-  offends k past h here = rw (split k (omega (arith, ends)) h ∙ le-ltb k end past, here)
-
   module _ (first : ℕ) (passed : (k : ℕ) → first ≤ k → k < 8 * u → unused_that m n test k ≡ false) where
     up_to : (last : ℕ) → last ≤ 8 * u + 8 → ((k : ℕ) → end ≤ k → k < last → test k ≡ false)
         → (k : ℕ) → first ≤ k → k < last → unused_that m n test k ≡ false
@@ -61,16 +58,6 @@ module _ (m n u : ℕ) {end : ℕ} (low : u < 8) (ends : end ≡ used_end m n u)
         → (k : ℕ) → first ≤ k → k < 8 * (u + 1) → unused_that m n test k ≡ false
     unused_more found e none k l h =
         up_to (8 * u + 8) (omega arith) (subst (FirstThat end (8 * u + 8) test) e none) k l (omega arith)
-
-    pub unused_found : (last c : ℕ) (found : Option ℕ) → found ≡ Some c → FirstThat end (8 * u + 8) test found → first ≤ 8 * u
-        → 8 * u + 8 ≤ last → FirstThat first last (unused_that m n test) (Some c)
-    unused_found last c found e sought begun within =
-        let (past, inside, here, before) = subst (FirstThat end (8 * u + 8) test) e sought in (
-          omega (arith, ends),
-          omega arith,
-          offends c past inside here,
-          up_to c (omega arith) before,
-        )
 
 -- What the search of a half's cells says of a row of them.
 module _ (row : Row) (half : ℕ) (test : ℕ → Bool) (size : row.size ≡ 32)
