@@ -204,6 +204,7 @@ module _ (P : Problem) (sound : Sound P) (s : State) (at : Between P s) where
       go (inr (inr (k, hk, q, pos))) =
           let same : k ≡ c = ap number_of (sym (ap (λ x. x.event) q) ∙ e) in (rw same at hk, rw same at q, rw same at pos)
 
+  -- Stands because docs/PORT-NAMES.md names it; no function cites it today.
   pub never_nothing : 0 < (next P s).parts → (next P s).event ≡ nothing → ⊥
   never_nothing pos e = go which
     where

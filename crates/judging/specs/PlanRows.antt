@@ -18,6 +18,7 @@ use Rattle.judging.specs.PlanWithin.{said_reason}
 use Rattle.judging.specs.Places.{low_word, low_of, reason_word}
 
 -- The plan of these numbers: what a walk that is lent only some of the tables says, it says of such a plan.
+-- Stands because docs/PORT-NAMES.md names it; no contract cites it today.
 abbrev pub plan_with : ℕ → List ℕ → List ℕ → Plan
 plan_with b numerators reasons = record { base = b; numerators = numerators; reasons = reasons }
 

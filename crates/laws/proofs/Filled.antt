@@ -32,6 +32,7 @@ filled_next {size} {n} {x} {f} {table} filled low e =
 pub filled_as : {size n m : ℕ} {f : ℕ → ℕ} {table : List ℕ} → Filled size f n table → n ≡ m → Filled size f m table
 filled_as {size} {n} {m} {f} {table} filled e = subst (λ (k : ℕ). Filled size f k table) e filled
 
+-- Stands because docs/PORT-NAMES.md names it; no function cites it today.
 pub filled_all : {size n : ℕ} {f : ℕ → ℕ} {table : List ℕ} → Filled size f n table → n ≡ size → table ≡ list size f
 filled_all {size} {n} {f} {table} filled e =
     let whole = filled_as filled e in sym (list_is size f table whole.long (λ c h. sym (whole.each c h)))

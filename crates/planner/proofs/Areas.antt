@@ -38,6 +38,7 @@ pub record OnLine (l c : ℕ) : Type 0 where
 pub record Walk (l : ℕ) : Type 0 where
   pub end_low : end_of l ≤ 64
   pub step_up : 0 < step_of l
+  -- Stands because docs/PORT-NAMES.md names it; no function cites it today.
   pub step_low : step_of l ≤ 8
   pub before : (d : ℕ) → d < first_of l → through l d ≡ false
   pub beyond : (d : ℕ) → end_of l ≤ d → d < 64 → through l d ≡ false

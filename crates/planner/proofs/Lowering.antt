@@ -52,13 +52,8 @@ hit_next {hits} {To} {old} {new} so_far i low fresh y to =
         let other : l ≡ i → ⊥ = λ q. n (sym q) in get_or-set_other new i l y 0 other ∙ so_far.others l (omega arith)
 
 -- The limits are changed one after the other: the input's, the output's, and those of their cards.
-module _ {cards : Bool} {c : ℕ} {Fit : ℕ → Type 0} (To : ℕ → ℕ → Type 0) (low : c < 64) {t : List ℕ} (passed : Passed cards c Fit t) where
-  abbrev i : ℕ
-  i = c / 8
-
-  abbrev j : ℕ
-  j = 8 + c % 8
-
+module _ {cards : Bool} {c : ℕ} {Fit : ℕ → Type 0} (To : ℕ → ℕ → Type 0) (low : c < 64) {t : List ℕ} (passed : Passed cards c Fit t)
+    {i : ℕ} (input : i ≡ c / 8) where
   -- a limit that is not hit yet is as it was
   fits : {hits : ℕ → ℕ} {new : List ℕ} → Hit hits To t new → (k : ℕ) → k < limits_of cards → through k c ≡ true → hits k ≡ 0
       → (k < length t) × Fit (cells new k)
@@ -78,19 +73,23 @@ module _ {cards : Bool} {c : ℕ} {Fit : ℕ → Type 0} (To : ℕ → ℕ → T
 
   first : (i < length t) × Fit (cells t i)
   first =
-      fits (hit_none To t) i (omega (arith, (few_limits cards).0)) (passes_input c low) refl
+      fits (hit_none To t) i (omega (arith, input, (few_limits cards).0)) (rw input (passes_input c low)) refl
 
   pub at_input : Fit (cells t i)
   at_input = first.1
 
-  module _ (y₁ : ℕ) (to₁ : To (cells t i) y₁) where
+  module _ (y₁ : ℕ) (to₁ : To (cells t i) y₁) {j : ℕ} (output : j ≡ 8 + c % 8) where
+    -- an input's limit is none of an output's
+    apart : i ≡ j → ⊥
+    apart e = omega (arith, input, output)
+
     one : Hit (λ l. 0 + on (eqb i l) 1) To t (set t i y₁)
     one = hit_next (hit_none To t) i first.0 refl y₁ to₁
 
     second : (j < length t) × Fit (cells (set t i y₁) j)
     second =
-        fits one j (omega (arith, (few_limits cards).0)) (passes_output c low)
-        (omega (arith, on_other i j 1 (λ e. omega arith)))
+        fits one j (omega (arith, output, (few_limits cards).0)) (rw output (passes_output c low))
+        (omega (arith, on_other i j 1 apart))
 
     pub at_output : Fit (cells (set t i y₁) j)
     at_output = second.1
@@ -100,11 +99,11 @@ module _ {cards : Bool} {c : ℕ} {Fit : ℕ → Type 0} (To : ℕ → ℕ → T
       t₂ = set (set t i y₁) j y₂
 
       two : Hit (λ l. 0 + on (eqb i l) 1 + on (eqb j l) 1) To t t₂
-      two = hit_next one j second.0 (omega (arith, on_other i j 1 (λ e. omega arith))) y₂ to₂
+      two = hit_next one j second.0 (omega (arith, on_other i j 1 apart)) y₂ to₂
 
       pub changed_ports : cards ≡ false → Changed cards c To t t₂
       changed_ports without =
-          changed two (λ l h. let h' : l < 16 = rw without at h in omega (arith, on_ports c low 1 l h'))
+          changed two (λ l h. let h' : l < 16 = rw without at h in rw (input, output) (omega (arith, on_ports c low 1 l h')))
 
       module _ (with : cards ≡ true) where
         abbrev k : ℕ
@@ -114,7 +113,7 @@ module _ {cards : Bool} {c : ℕ} {Fit : ℕ → Type 0} (To : ℕ → ℕ → T
         m = 18 + c % 8 / 4
 
         past_ports : (l : ℕ) → 16 ≤ l → 0 + on (eqb i l) 1 + on (eqb j l) 1 ≡ 0
-        past_ports l h = omega (arith, on_other i l 1 (λ e. omega arith), on_other j l 1 (λ e. omega arith))
+        past_ports l h = omega (arith, on_other i l 1 (λ e. omega (arith, input)), on_other j l 1 (λ e. omega (arith, output)))
 
         third : (k < length t) × Fit (cells t₂ k)
         third = fits two k (rw with (omega arith)) (passes_input_card c low) (past_ports k (omega arith))
@@ -138,4 +137,4 @@ module _ {cards : Bool} {c : ℕ} {Fit : ℕ → Type 0} (To : ℕ → ℕ → T
           pub changed_cards : (y₄ : ℕ) → To (cells (set t₂ k y₃) m) y₄ → Changed cards c To t (set (set t₂ k y₃) m y₄)
           changed_cards y₄ to₄ =
               changed (hit_next three m fourth.0 past_cards y₄ to₄)
-              (λ l h. let h' : l < 20 = rw with at h in omega (arith, on_cards c low 1 l h'))
+              (λ l h. let h' : l < 20 = rw with at h in rw (input, output) (omega (arith, on_cards c low 1 l h')))

@@ -1,7 +1,7 @@
 -- The walk that stops the flows which meet their demands, one cell further.
 use Prim.Native.Nat.{ℕ, ◌+◌, ◌*◌, ◌≤◌, ◌<◌}
 use mathlib.Core.Path.{◌≡◌, refl, sym, ap, ◌∙◌}
-use mathlib.Core.Bool.{false}
+use mathlib.Core.Bool.{Bool, false, cond}
 use mathlib.Core.List.{List}
 use mathlib.Core.Logic.{◌⊎◌, inl, inr}
 use native.Mathlib.Omega.{arith}
@@ -11,7 +11,8 @@ use lib.ListN.{length, set}
 use lib.Seq.{get_or-set_other}
 use Rattle.laws.specs.Lists.{cells}
 use Rattle.laws.proofs.Search.{le_or_lt, eq_or_not}
-use Rattle.planner.specs.Tables.{Bounded}
+use Rattle.fairness.specs.Total.{on}
+use Rattle.planner.specs.Tables.{Bounded, Swept}
 use Rattle.planner.specs.Engine.{met_at, MetTo, Lightest, Light}
 use Rattle.planner.specs.declared.flows.Flows.{Flows}
 use Rattle.planner.specs.declared.level.Level.{Level}
@@ -52,10 +53,19 @@ module _ (base high parts heaviest least : ℕ) (demands weights stages : List �
           )
       go (inr n) = rw (ne_eqb (cells stages c) 20 n)
 
--- Where no flow meets its demand the walk changes nothing.
-pub swept_unmet : (f : Flows) (base : ℕ) (level : Level) (t : Tables)
+-- Where no flow meets its demand the walk changes nothing, whatever the tables and the level are.
+pub swept_unmet : (cards : Bool) (base high parts : ℕ) (demands weights : List ℕ) (t : Tables)
+    → ((c : ℕ) → c < 64 → met_at base high parts demands weights t.stages c ≡ false)
+    → length t.stages ≡ 64 → length t.left ≡ 20 → length t.parts ≡ 20
+    → Swept cards 64 (λ c. cond (met_at base high parts demands weights t.stages c) 21 (cells t.stages c))
+    (λ c. on (met_at base high parts demands weights t.stages c) (cells demands c * base))
+    (λ c. on (met_at base high parts demands weights t.stages c) (cells weights c)) t t
+swept_unmet cards base high parts demands weights t none long_s long_l long_p =
+    swept_past cards _ _ _ t t 0 64 (omega arith) (omega arith) (λ c g h. rw (none c h) (refl, refl, refl))
+    (swept_none cards _ _ _ t long_s long_l long_p)
+
+-- So it is of the engine's flows and levels.
+pub swept_unmet_here : (f : Flows) (base : ℕ) (level : Level) (t : Tables)
     → ((c : ℕ) → c < 64 → met_at base level.high level.parts f.demands.now f.weights.now t.stages c ≡ false)
     → length t.stages ≡ 64 → length t.left ≡ 20 → length t.parts ≡ 20 → MetTo f base level 64 t t
-swept_unmet f base level t none long_s long_l long_p =
-    swept_past f.cards _ _ _ t t 0 64 (omega arith) (omega arith) (λ c g h. rw (none c h) (refl, refl, refl))
-    (swept_none f.cards _ _ _ t long_s long_l long_p)
+swept_unmet_here f base level = swept_unmet f.cards base level.high level.parts f.demands.now f.weights.now

@@ -21,11 +21,11 @@ use Rattle.fairness.proofs.Some.{none_of_some, some_alike}
 use Rattle.fairness.proofs.Lowest.{lowest_none}
 use Rattle.fairness.proofs.Filling.{fixed_fits, fills_next, reaches_next, round_further}
 use Rattle.planner.specs.Sizes.{most_asked}
-use Rattle.planner.specs.Limits.{limits_of, through}
+use Rattle.planner.specs.Limits.{limits_of, through, problem}
 use Rattle.planner.specs.Tables.{Roomy, RoomyBy, Taken, Holds}
 use Rattle.planner.specs.Engine.{sharing, state_of, state_at, met_at, met_rate, met_weight, halt_rate, halted_stage}
 use Rattle.planner.specs.Engine.{Engaged, Kept, Light, Modest, MetRoom, MetTo, ShutReady, Shut, Freed, FillsReady, ReachesReady, Happened}
-use Rattle.planner.specs.Engine.{next_of, event_of, next_event, rising_at, waiting_at}
+use Rattle.planner.specs.Engine.{next_of, event_of, next_among, next_event, rising_at, waiting_at}
 use Rattle.planner.specs.declared.filling.Filling.{Filling}
 use Rattle.planner.specs.declared.flows.Flows.{Flows}
 use Rattle.planner.specs.declared.level.Event.{Event}
@@ -89,7 +89,32 @@ waits_of g w h = go (eq_or_not g 22)
     go (inl e) = e
     go (inr n) = let none : 0 < 0 = rw (ne_eqb g 22 n) at h in absurd (omega arith)
 
--- The search finds what happens next.
+-- The search finds what happens next, whatever the tables are: what is left and what rises has to be kept, and no flow waits
+-- unless that is told.
+module _ (cards held : Bool) (capacities demands minima weights : List ℕ) (base : ℕ) (stages levels left parts : List ℕ) where
+  abbrev any : Problem
+  any = problem cards capacities demands minima weights
+
+  abbrev there : State
+  there = state_of any base stages levels
+
+  pub next_is : Kept any there left parts → (held ≡ false → (c : ℕ) → c < 64 → cells stages c ≢ 22)
+      → next_among cards held base minima weights stages left parts ≡ next any there
+  unfolding next
+  next_is kept unheld = go held refl
+    where
+      none : (c : ℕ) → cells stages c ≢ 22 → waiting_at any stages c ≡ 0
+      none c n = rw (ne_eqb (cells stages c) 22 n)
+
+      go : (h : Bool) → held ≡ h → next_among cards h base minima weights stages left parts ≡ next any there
+      go true e =
+          flows_same any base stages levels _
+          ∙ ap (lowest 64 (flow_next there)) (limits_same any there left parts kept)
+      go false e =
+          limits_same any there left parts kept
+          ∙ sym (lowest_none 64 (flow_next there) _ (λ c hc. waiting_cell any base stages levels c hc ∙ none c (unheld e c hc)))
+
+-- So it does between two turns.
 module _ {f : Flows} {capacities : List ℕ} {at : Filling} (now : Engaged f capacities at) where
   abbrev own : Problem
   own = sharing f capacities
@@ -97,21 +122,10 @@ module _ {f : Flows} {capacities : List ℕ} {at : Filling} (now : Engaged f cap
   abbrev state : State
   state = state_at own at
 
-  pub next_is : next_event f at ≡ next own state
-  unfolding next
-  next_is = go at.held refl
-    where
-      go : (h : Bool) → at.held ≡ h → next_event f (record at { held = h }) ≡ next own state
-      go true e =
-          flows_same own at.base at.tables.stages at.levels _
-          ∙ ap (lowest 64 (flow_next state)) (limits_same own state at.tables.left at.tables.parts now.kept)
-      go false e =
-          limits_same own state at.tables.left at.tables.parts now.kept
-          ∙ sym (lowest_none 64 (flow_next state) _ (λ c hc.
-          waiting_cell own at.base at.tables.stages at.levels c hc ∙ none c (now.unheld e c hc)))
-        where
-          none : (c : ℕ) → cells at.tables.stages c ≢ 22 → waiting_at own at.tables.stages c ≡ 0
-          none c n = rw (ne_eqb (cells at.tables.stages c) 22 n)
+  pub next_here : next_event f at ≡ next own state
+  next_here =
+      next_is f.cards at.held capacities f.demands.now f.minima.now f.weights.now at.base at.tables.stages at.levels at.tables.left
+      at.tables.parts now.kept now.unheld
 
 -- A turn: what holds before it, and the level that the search found.
 pub record Turn (f : Flows) (capacities : List ℕ) (at : Filling) (e : Level) : Type 0 where
@@ -271,7 +285,7 @@ module _ {f : Flows} {capacities : List ℕ} {at : Filling} {e : Level} (turn : 
 
     -- The turn goes on from there, and still no flow meets its demand.
     pub unmet_on : some 64 (met_at b e.high e.parts demands weights stages) ≡ false
-        → Turn f capacities new e × (some 64 (meets P (state_at P new) (next_of e)) ≡ false) × (state_at P new ≡ s)
+        → Turn f capacities new e × (some 64 (meets P (state_at P new) (next_of e)) ≡ false) × (stages' ≡ stages) × (state_at P new ≡ s)
     unmet_on unmet =
         let still = (unmet_turn unmet).1 in (
           record {
@@ -282,6 +296,7 @@ module _ {f : Flows} {capacities : List ℕ} {at : Filling} {e : Level} (turn : 
           },
           rw (kept.1, kept.2) (subst (λ (st : List ℕ). some 64 (meets P (state_of P b st levels) (next_of e)) ≡ false) (sym still)
               (sym some_same ∙ unmet)),
+          still,
           rw (kept.1, kept.2) (ap (λ (st : List ℕ). state_of P b st levels) still),
         )
 
@@ -324,7 +339,7 @@ module _ {f : Flows} {capacities : List ℕ} {at : Filling} {e : Level} (turn : 
       scaled : (i : ℕ) → i < limits_of cards → cells left_by i ≡ cells left i * e.parts
       scaled i h = cells-list 20 _ i (limit_small cards i h)
 
-      room_shut : RoomyBy cards e.parts (halt_rate limit e.high weights stages) left
+      pub room_shut : RoomyBy cards e.parts (halt_rate limit e.high weights stages) left
       room_shut =
           record {
             long = now.long.2;
@@ -419,7 +434,7 @@ module _ {f : Flows} {capacities : List ℕ} {at : Filling} {e : Level} (turn : 
       unfolding happen
       free_further = further_by (event.Reaches flow) at_flow _ refl
 
-      holds_left : Holds cards flow (cells minima flow * b) left
+      pub holds_left : Holds cards flow (cells minima flow * b) left
       holds_left =
           record {
             long = now.long.2;
@@ -433,7 +448,7 @@ module _ {f : Flows} {capacities : List ℕ} {at : Filling} {e : Level} (turn : 
                 );
           }
 
-      holds_parts : Holds cards flow (cells weights flow) parts
+      pub holds_parts : Holds cards flow (cells weights flow) parts
       holds_parts =
           record {
             long = now.long.3;

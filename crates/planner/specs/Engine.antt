@@ -228,11 +228,15 @@ abbrev pub flow_event : ℕ → List ℕ → List ℕ → List ℕ → ℕ → N
 flow_event base minima weights stages c =
     record { high = cells minima c * base; parts = on (eqb (cells stages c) 22) (cells weights c); event = reaches c }
 
--- What happens next; flows are looked at only where some of them may wait.
+-- What happens next; flows are looked at only where some of them may wait. And the same of a filling.
+abbrev pub next_among : Bool → Bool → ℕ → List ℕ → List ℕ → List ℕ → List ℕ → List ℕ → Next
+next_among cards held base minima weights stages left parts =
+    let first = lowest (limits_of cards) (limit_event left parts) never in
+    cond held (lowest 64 (flow_event base minima weights stages) first) first
+
 abbrev pub next_event : Flows → Filling → Next
 next_event f at =
-    let first = lowest (limits_of f.cards) (limit_event at.tables.left at.tables.parts) never in
-    cond at.held (lowest 64 (flow_event at.base f.minima.now f.weights.now at.tables.stages) first) first
+    next_among f.cards at.held at.base f.minima.now f.weights.now at.tables.stages at.tables.left at.tables.parts
 
 -- What is left of the limits, and what rises through them, leaves room for products in 64 bits.
 pub record LimitsSmall (cards : Bool) (t : Tables) : Type 0 where

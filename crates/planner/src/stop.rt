@@ -1,8 +1,8 @@
 // Flows that stop, at their demand.
-ghost use Rattle.std.specs.Prelude.{◌≤◌, ◌<◌, ◌≡◌, ◌||◌};
+ghost use Rattle.std.specs.Prelude.{◌≤◌, ◌<◌, ◌≡◌, ◌||◌, false};
 ghost use Rattle.laws.specs.Lists.{cells};
 ghost use Rattle.fairness.specs.Filling.{some};
-ghost use Rattle.planner.specs.Sizes.{most_base};
+ghost use Rattle.planner.specs.Sizes.{most_asked, most_base};
 ghost use Rattle.planner.specs.Stages.{number_of, Numbered};
 ghost use Rattle.planner.specs.Tables.{Spares, Halted};
 ghost use Rattle.planner.specs.Engine.{meets_at, MetRoomAt, MetAt, MetRoom, MetTo, Lightest, Light};
@@ -19,6 +19,19 @@ use crate::tables::Tables;
 pub struct Met {
     pub any: bool,
     pub least: u64,
+}
+
+impl Met {
+    // Before the walk: no flow has met its demand, and none asks for more than the limit.
+    fn none() -> Met
+        ensures { (result.any ≡ false) × (result.least ≡ most_asked) }
+    {
+        Met {
+            any: false,
+            // The largest demand. Not by its name: with `Request::DEMAND` the compiler makes a plan of many rounds a tenth dearer.
+            least: 16_777_216,
+        }
+    }
 }
 
 impl Tables {
@@ -65,11 +78,7 @@ impl Tables {
         ensures light { Light 64 result.least flows.now.demands.now self.new.stages }
         ensures swept { MetTo flows.now base level 64 self.old self.new }
     {
-        let mut met = Met {
-            any: false,
-            // The largest demand. Not by its name: with `Request::DEMAND` the compiler makes a plan of many rounds a tenth dearer.
-            least: 16_777_216,
-        };
+        let mut met = Met::none();
         // By number: three tables change at the cell.
         for cell in 0..64 {
             met = self.meet(flows, cell, base, level, met);

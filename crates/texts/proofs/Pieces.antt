@@ -1,4 +1,5 @@
 -- Pieces of a text that are put into a buffer one after the other make one piece.
+-- Stands because docs/PORT-NAMES.md names these; no function cites them today, for a text that is written has a model (listing).
 use Prim.Native.Nat.{ℕ, zero, suc, ◌+◌, ◌≤◌, ◌<◌}
 use mathlib.Core.Path.{◌≡◌, refl, sym, ◌∙◌, ap, subst}
 use mathlib.Core.Logic.{◌⊎◌, inl, inr}

@@ -1,4 +1,4 @@
--- How a text is put into a buffer, piece after piece.
+-- How a text is put into a buffer, piece after piece. Stands for what proofs/Pieces says; no contract cites it today.
 use Rattle.std.specs.Prelude.{ℕ, ◌+◌, ◌≡◌, List, length}
 use Rattle.std.proofs.lemmas.List.Edits.{sets}
 

@@ -15,6 +15,7 @@ product_below a b ha hb =
     let low : a ≤ 4_294_967_295 = omega arith in
     omega (arith, mul-le-mul low hb)
 
+-- Stands because docs/PORT-NAMES.md names it; no function cites it today.
 pub product_split : (a b : ℕ) → a * b ≡ a * (b / 4_294_967_296) * 4_294_967_296 + a * (b % 4_294_967_296)
 product_split a b = omega (arith, ap (λ x. a * x) (div-add-mod b 4_294_967_296))
 

@@ -2,7 +2,7 @@
 use Rattle.std.proofs.Common.{◌≡◌, ℕ, ◌<◌, false, sym, rules}
 use Rattle.fairness.proofs.Some.{some_none}
 use Rattle.planner.specs.Engine.{met_at}
-use Rattle.planner.proofs.Meeting.{none_met, swept_unmet}
+use Rattle.planner.proofs.Meeting.{none_met, swept_unmet_here}
 use Rattle.planner.proofs.filling.Filling.stop_some.Goals as goal
 use Rattle.planner.proofs.filling.Filling.stop_some.Goals.{Then-level-flows}
 
@@ -21,5 +21,5 @@ returns-then-level-flows-clause-any_value c =
 
 pub returns-then-level-flows-clause-swept : goal.returns-then-level-flows-clause-swept
 returns-then-level-flows-clause-swept c =
-    swept_unmet c.args.flows.now c.args.self.now.base c.args.level c.args.self.now.tables
+    swept_unmet_here c.args.flows.now c.args.self.now.base c.args.level c.args.self.now.tables
     (none (goal.at.returns-then-level-flows-clause-swept c).Then-level-flows) (search rules) c.requires.1.0.long c.requires.1.1.long

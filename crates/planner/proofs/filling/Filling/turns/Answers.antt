@@ -4,7 +4,7 @@ use Rattle.fairness.specs.Filling.{Next, State, work}
 use Rattle.planner.specs.Engine.{sharing, standing, state_of, state_at, next_event, Found, Modest, Engaged}
 use Rattle.planner.specs.declared.level.Level.{Level}
 use Rattle.planner.proofs.LastTurn.{base_now, limits_now, levels_now, fair_at_last}
-use Rattle.planner.proofs.Turns.{Turn, next_is, room_met, met_turn, unmet_on, happen_ready, happened_turn}
+use Rattle.planner.proofs.Turns.{Turn, next_here, room_met, met_turn, unmet_on, happen_ready, happened_turn}
 use Rattle.planner.proofs.filling.Filling.turns.Goals as goal
 use Rattle.planner.proofs.filling.Filling.turns.Goals.{At-turns}
 
@@ -24,7 +24,7 @@ module _ (c : At-turns) where
   turn : (level : Level) → Found (next_event c.args.flows.now c.turns.self) (Some level) → {capacities : List ℕ} → Modest (sharing c.args.flows.now capacities) c.args.flows.now.heaviest
       → Engaged c.args.flows.now capacities c.turns.self → Turn c.args.flows.now capacities c.turns.self level
   turn level found fits at =
-      record { modest = fits; now = at; is = found.0 ∙ next_is at; pos = found.1 }
+      record { modest = fits; now = at; is = found.0 ∙ next_here at; pos = found.1 }
 
 pub next_level-requires : goal.next_level-requires
 next_level-requires c =
@@ -39,7 +39,7 @@ returns c =
           let at = c.turns.invariant capacities fits at₀ in (
             base_now fits at,
             levels_now fits at,
-            fair_at_last fits at (ap (λ (n : Next). n.parts) (sym (next_is at)) ∙ c.in_default.ensures),
+            fair_at_last fits at (ap (λ (n : Next). n.parts) (sym (next_here at)) ∙ c.in_default.ensures),
           );
     }
 
@@ -88,7 +88,7 @@ turns-smaller-then-not-met c =
     subst
     (λ (s : State). work (sharing c.args.flows.now (own l)) (state_at (sharing c.args.flows.now (own l)) c.happen.new.self)
     < work (sharing c.args.flows.now (own l)) s)
-    on.2 (happened_turn on.0 on.1 c.happen.new.self c.happen.ensures).1
+    on.3 (happened_turn on.0 on.1 c.happen.new.self c.happen.ensures).1
 
 pub turns-preserved-then-not-met : goal.turns-preserved-then-not-met
 turns-preserved-then-not-met c capacities fits at =

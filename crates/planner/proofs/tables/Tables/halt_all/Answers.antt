@@ -15,7 +15,7 @@ use Rattle.planner.proofs.tables.Tables.halt_all.Goals.{In-loop-cell}
 pub loop-cell-init : goal.loop-cell-init
 loop-cell-init c =
     rw (ap (λ a. a.first) c.area_of-area.ensures)
-    (walk_starts c.args.flows.now c.args.limit c.args.level.high c.args.self.now
+    (walk_starts c.args.flows.now.cards c.args.flows.now.weights.now c.args.limit c.args.level.high c.args.self.now
     (walk_of c.args.limit (omega (arith, (few_limits c.args.flows.now.cards).1))) (search rules) c.requires.1.0.long
     c.requires.1.1.long)
 
@@ -28,8 +28,8 @@ module _ (c : In-loop-cell) where
   before_end = rw (ap (λ a. a.end) c.area_of-area.ensures) at c.loop-cell-test.true
 
   visited : OnLine c.args.limit c.loop-cell.cell
-      × SweptTo c.args.flows.now c.args.limit c.args.level.high c.args.self.now c.loop-cell.cell c.loop-cell.self
-  visited = walk_here c.args.flows.now c.args.limit c.args.level.high c.args.self.now before_end c.loop-cell.invariant
+      × SweptTo c.args.flows.now.cards c.args.flows.now.weights.now c.args.limit c.args.level.high c.args.self.now c.loop-cell.cell c.loop-cell.self
+  visited = walk_here c.args.flows.now.cards c.args.flows.now.weights.now c.args.limit c.args.level.high c.args.self.now before_end c.loop-cell.invariant
 
   low : c.loop-cell.cell < 64
   low = omega (arith, before_end, steps.end_low)
@@ -64,9 +64,9 @@ went_on : (c : In-loop-cell) (new : Tables)
     → Halted c.args.flows.now.cards c.loop-cell.cell (halt_stage c.args.limit c.loop-cell.self.stages c.loop-cell.cell)
     (halt_rate c.args.limit c.args.level.high c.args.flows.now.weights.now c.loop-cell.self.stages c.loop-cell.cell)
     (halt_weight c.args.limit c.args.flows.now.weights.now c.loop-cell.self.stages c.loop-cell.cell) c.loop-cell.self new
-    → Walked c.args.flows.now c.args.limit c.args.level.high c.args.self.now (c.loop-cell.cell + step_of c.args.limit) new
+    → Walked c.args.flows.now.cards c.args.flows.now.weights.now c.args.limit c.args.level.high c.args.self.now (c.loop-cell.cell + step_of c.args.limit) new
 went_on c new halted =
-    walk_goes_on c.args.flows.now c.args.limit c.args.level.high c.args.self.now (steps c) c.loop-cell.cell _ (before_end c)
+    walk_goes_on c.args.flows.now.cards c.args.flows.now.weights.now c.args.limit c.args.level.high c.args.self.now (steps c) c.loop-cell.cell _ (before_end c)
     (visited c).0 (visited c).1 new (rw (same c) at halted)
 
 pub loop-cell-preserved : goal.loop-cell-preserved
@@ -77,10 +77,10 @@ loop-cell-preserved c =
 pub returns-2 : goal.returns-2
 returns-2 c =
     let far : c.area_of-area.result.end ≤ c.loop-cell.cell + c.area_of-area.result.step = omega arith in
-    walk_done c.args.flows.now c.args.limit c.args.level.high c.args.self.now (rw c.area_of-area.ensures at far)
+    walk_done c.args.flows.now.cards c.args.flows.now.weights.now c.args.limit c.args.level.high c.args.self.now (rw c.area_of-area.ensures at far)
     (went_on (goal.at.returns-2 c).In-loop-cell _ c.halt.ensures)
 
 pub returns : goal.returns
 returns c =
-    walk_done c.args.flows.now c.args.limit c.args.level.high c.args.self.now
+    walk_done c.args.flows.now.cards c.args.flows.now.weights.now c.args.limit c.args.level.high c.args.self.now
     (rw (ap (λ a. a.end) c.area_of-area.ensures) at c.loop-cell-test.false) c.loop-cell.invariant

@@ -11,8 +11,8 @@ pub loop-cell-init : goal.loop-cell-init
 unfolding some
 loop-cell-init c =
     record {
-      any = refl;
-      light = record { small = omega arith; each = λ i h. absurd (omega arith) };
+      any = c.none-met.ensures.0;
+      light = record { small = omega (arith, c.none-met.ensures.1); each = λ i h. absurd (omega arith) };
       swept = swept_none _ _ _ _ c.args.self.now (search rules) c.requires.1.0.long c.requires.1.1.long;
     }
 
