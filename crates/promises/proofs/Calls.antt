@@ -1,10 +1,16 @@
 -- Every public call's contract is an equation with a definition, and so it allows one outcome alone.
 use Prim.Native.Nat.{ℕ}
-use mathlib.Core.Path.{◌≡◌, subst}
+use mathlib.Core.Path.{◌≡◌, refl, subst}
 use mathlib.Core.List.{[], Mem, not-mem-nil}
 use Rattle.laws.proofs.Determined.{one_answer}
+use Rattle.std.specs.Prelude.{⊤}
+use Rattle.std.specs.declared.ops.ControlFlow.{ControlFlow}
+use Rattle.std.specs.declared.ops.ControlFlow.TheVariants.{Continue, Break}
+use Rattle.switch.specs.Heard.{goes_on}
+use Rattle.switch.specs.declared.verdict.Refusal.{Refusal}
+use Rattle.switch.specs.declared.verdict.Verdict.{Verdict}
 use Rattle.promises.specs.Contract.{Settles}
-use Rattle.promises.specs.Calls.{BlocksCalls, SwitchCalls, RequestsCalls, SharesCalls, PlannerCalls, CheckerCalls, FilesCalls, ListingCalls, ExportCalls, Calls}
+use Rattle.promises.specs.Calls.{heard, BlocksCalls, SwitchCalls, RequestsCalls, SharesCalls, PlannerCalls, CheckerCalls, FilesCalls, ListingCalls, ExportCalls, Calls}
 
 nowhere : {A : Type 0} {l : ℕ} → Mem l [] → A
 nowhere m = absurd (not-mem-nil m)
@@ -18,6 +24,10 @@ settles total defined =
       defined = defined;
       same = λ κ a z z' e e' p q. one_answer (defined κ a z e p) (defined κ a z' e' q);
     }
+
+heard_by : (v : Verdict) (z : ControlFlow Refusal ⊤) → goes_on v z → z ≡ heard v
+heard_by v (Continue tt) p = rw p refl
+heard_by v (Break reason) p = rw p refl
 
 blocks : BlocksCalls
 blocks =
@@ -51,6 +61,13 @@ switch =
       refused = settles (λ κ a. tt) (λ κ a z e p. p);
       or_else = settles (λ κ a. tt) (λ κ a z e p. p);
       number = settles (λ κ a. tt) (λ κ a z e p. p);
+      branch = settles (λ κ a. tt) (λ κ a z e p. heard_by _ _ p);
+      from_output = settles (λ κ a. tt) (λ κ a z e p. p);
+      from_residual = settles (λ κ a. tt) (λ κ a z e p. p);
+      refusal_fmt = λ W laws writes dict nothing.
+          record { total = λ κ a l m. nowhere (subst (λ ls. Mem l ls) nothing m); text = λ κ a z e p. p.0 };
+      verdict_fmt = λ W laws writes dict nothing.
+          record { total = λ κ a l m. nowhere (subst (λ ls. Mem l ls) nothing m); text = λ κ a z e p. p.0 };
     }
 
 requests : RequestsCalls

@@ -5,7 +5,13 @@
 -- and `now` is what a reference refers to. Of a slice that is handed back a caller sees its bytes and its place in memory, and no more.
 -- Where a call takes a type T, what is said holds of every T that refers to nothing (`T.lives`), as numbers do; for other types it would
 -- also ask that what they refer to lives as long as the call.
-use Rattle.std.specs.Prelude.{◌≡◌, ◌*◌, [], get_or}
+use Rattle.std.specs.Prelude.{◌≡◌, ◌*◌, [], get_or, ⊤, Some}
+use Rattle.std.specs.Fmt.{DisplaysOnOk}
+use Rattle.std.specs.declared.ops.ControlFlow.{ControlFlow}
+use Rattle.std.specs.declared.ops.ControlFlow.TheVariants.{Continue, Break}
+use Rattle.switch.specs.declared.verdict.Refusal.{Refusal}
+use Rattle.switch.specs.declared.verdict.Verdict.{Verdict}
+use Rattle.switch.specs.declared.verdict.Verdict.TheVariants.{Accepted, Refused}
 use Rattle.fairness.specs.Divisor.{gcd, gcd_of}
 use Rattle.words.specs.Words.{word_at, with_word}
 use Rattle.words.specs.Check.{start_of, check, word_in, sealed, sealed_in}
@@ -13,8 +19,9 @@ use Rattle.switch.specs.Cells.{input, output, cell_of, input_of, output_of, inpu
 use Rattle.switch.specs.Halves.{half_number}
 use Rattle.switch.specs.Numbering.{number_of}
 use Rattle.switch.specs.RequestRows.{request_verdict}
-use Rattle.switch.specs.Rows.{refusal, or_else, row_verdict}
+use Rattle.switch.specs.Rows.{refusal, refused_by, or_else, row_verdict}
 use Rattle.switch.specs.Tables.{used_end}
+use Rattle.switch.specs.Told.{refusal_told, verdict_told}
 use Rattle.switch.specs.Values.{zero_request, empty_plan}
 use Rattle.worked.specs.Port.{port_of, input_port, output_port}
 use Rattle.worked.specs.Reason.{holds, reason_from, reasons_at}
@@ -29,7 +36,7 @@ use Rattle.formats.specs.RequestFile.{read_verdict, request_read, request_writte
 use Rattle.formats.specs.Writing.{write_verdict}
 use Rattle.texts.specs.Listing.{listed, listed_in}
 use Rattle.codes.specs.Code.{code_of, plan_verdict, plan_laid, choice_of}
-use Rattle.promises.specs.Contract.{Settles}
+use Rattle.promises.specs.Contract.{Settles, Tells}
 use denote.RattleType.{RattleType}
 use Rattle.blocks.proofs.word.word.Reads as Word
 use Rattle.blocks.proofs.word.put.Reads as Put
@@ -55,6 +62,11 @@ use Rattle.switch.proofs.plan.Plan.empty.Reads as Empty
 use Rattle.switch.proofs.verdict.refused.Reads as Refused
 use Rattle.switch.proofs.verdict.Verdict.or_else.Reads as OrElse
 use Rattle.switch.proofs.verdict.Cause.number.Reads as Number
+use Rattle.switch.proofs.verdict.VerdictTry.branch.Reads as VerdictBranch
+use Rattle.switch.proofs.verdict.VerdictTry.from_output.Reads as VerdictFromOutput
+use Rattle.switch.proofs.verdict.VerdictFromResidualRefusal.from_residual.Reads as VerdictFromResidual
+use Rattle.switch.proofs.verdict.RefusalDisplay.fmt.Reads as RefusalFmt
+use Rattle.switch.proofs.verdict.VerdictDisplay.fmt.Reads as VerdictFmt
 use Rattle.requests.proofs.check.check.Reads as RequestCheck
 use Rattle.shares.proofs.arithmetic.times.Reads as Times
 use Rattle.shares.proofs.port.port.Reads as Port
@@ -84,6 +96,11 @@ use Rattle.export.proofs.calls.rate_plan_write.Reads as PlanWrite
 use Rattle.export.proofs.calls.rate_plan_check.Reads as PlanCheck
 use Rattle.export.proofs.calls.rate_plan_choose.Reads as PlanChoose
 use Rattle.export.proofs.calls.rate_plan_list.Reads as PlanList
+
+-- What `?` makes of a verdict: it goes on, or leaves with the refusal.
+abbrev pub heard : Verdict → ControlFlow Refusal ⊤
+heard Accepted = Continue tt
+heard (Refused reason) = Break reason
 
 pub record BlocksCalls : Type 0 where
   pub word : Settles Word.Asked Word.Post (λ κ z e. z) (λ κ (file, (i, _)). word_at file.now i)
@@ -117,6 +134,15 @@ pub record SwitchCalls : Type 2 where
   pub refused : Settles Refused.Asked Refused.Post (λ κ z e. z) (λ κ (cause, (place, _)). refusal cause place)
   pub or_else : Settles OrElse.Asked OrElse.Post (λ κ z e. z) (λ κ (first, (next, _)). or_else first next)
   pub number : Settles Number.Asked Number.Post (λ κ z e. z) (λ κ (cause, _). number_of cause)
+  pub branch : Settles VerdictBranch.Asked VerdictBranch.Post (λ κ z e. z) (λ κ (verdict, _). heard verdict)
+  pub from_output : Settles VerdictFromOutput.Asked VerdictFromOutput.Post (λ κ z e. z) (λ κ a. Accepted)
+  pub from_residual : Settles VerdictFromResidual.Asked VerdictFromResidual.Post (λ κ z e. z) (λ κ (reason, _). refused_by reason)
+  pub refusal_fmt : (W : RattleType) (laws : _) (writes : _) (dict : _) → W.lives ≡ []
+      → Tells (RefusalFmt.Asked W laws writes dict) (RefusalFmt.Post W laws writes dict)
+      (λ κ (refusal, (f, _)) z (_, (g, _)). DisplaysOnOk writes.write_str_gives f.now z (Some (refusal_told refusal.now)) g.now)
+  pub verdict_fmt : (W : RattleType) (laws : _) (writes : _) (dict : _) → W.lives ≡ []
+      → Tells (VerdictFmt.Asked W laws writes dict) (VerdictFmt.Post W laws writes dict)
+      (λ κ (verdict, (f, _)) z (_, (g, _)). DisplaysOnOk writes.write_str_gives f.now z (Some (verdict_told verdict.now)) g.now)
 
 pub record RequestsCalls : Type 0 where
   pub check : Settles RequestCheck.Asked RequestCheck.Post (λ κ z e. z) (λ κ (request, _). request_verdict request)
