@@ -96,6 +96,6 @@ pub fn answer_next() -> Option<()> {
     let mut second = [0; MOST];
     let second = read_file(head.second, &mut second)?;
     let number = head.call.make(first, second, buffer);
-    write(&number.to_le_bytes())?;
-    write(buffer)
+    // The buffer is written even where the number could not be.
+    write(&number.to_le_bytes()).and(write(buffer))
 }
