@@ -47,7 +47,7 @@ module _ (r : Request) (p : Plan) where
       let (first, second) = accepts_both (row_verdict (half_not_zero r p 0)) _ plan in
       (within_of_accepted r own, plan_within_of_accepted r p first second base)
 
-  judged_as_asked : or_else (or_else (request_verdict r) (or_else (row_verdict (half_not_zero r p 0)) (row_verdict (half_not_zero r p 1))))
+  pub judged_as_asked : or_else (or_else (request_verdict r) (or_else (row_verdict (half_not_zero r p 0)) (row_verdict (half_not_zero r p 1))))
       (or_else (row_verdict (base_row p.base)) (rates_worked r p)) ≡ judged r p
   unfolding verdict_of numbers
   judged_as_asked =

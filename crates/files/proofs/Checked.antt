@@ -90,13 +90,13 @@ module _ (file : List ℕ) (r : Request) (p : Plan) where
       )
 
 -- What is asked of the blocks' contents.
-abbrev content : List ℕ → Request → Plan → Verdict
+abbrev pub content : List ℕ → Request → Plan → Verdict
 content file r p =
     or_else (request_verdict r)
     (or_else (row_verdict (zeros file r p))
     (or_else (verdict_of (base_row (base_in file 0) ∷ base_differs_row file ∷ [])) (rates_worked r p)))
 
-checked_as_asked : (file : List ℕ)
+pub checked_as_asked : (file : List ℕ)
     → check_verdict file ≡ or_else (verdict_of (frame file)) (content file (request_in file) (plan_in file))
 checked_as_asked file = asked_in_order file (request_in file) (plan_in file)
 

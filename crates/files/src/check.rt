@@ -5,7 +5,8 @@ ghost use Rattle.switch.specs.Rows.{joined, row_verdict, or_else, verdict_of};
 ghost use Rattle.judging.specs.PlanRows.{half_not_zero, base_row};
 ghost use Rattle.worked.specs.Worked.{rates_worked};
 ghost use Rattle.formats.specs.FileRows.{spare_row};
-ghost use Rattle.formats.specs.PlanFile.{base_in, base_differs_row, check_verdict};
+ghost use Rattle.formats.specs.RequestFile.{request_in};
+ghost use Rattle.formats.specs.PlanFile.{base_in, base_differs_row, plan_in, check_verdict};
 
 use crate::format::{base_rows, zeros_row};
 use crate::read::{plan_in, request_in};
@@ -26,11 +27,19 @@ fn content_rows(file: &[u8], request: &Request, plan: &Plan) -> Verdict
     rates(request, plan)
 }
 
+// The same, of the request and the plan that the file holds. (They are read here and not in `check`, which would then clear the
+// room for both before it asks for the length.)
+fn read_rows(file: &[u8]) -> Verdict
+    ensures { result ≡ or_else (request_verdict (request_in file.now)) (or_else (row_verdict (joined (spare_row 0 83 44 file.now) (joined (half_not_zero (request_in file.now) (plan_in file.now) 0) (joined (spare_row 1 75 52 file.now) (joined (half_not_zero (request_in file.now) (plan_in file.now) 1) (spare_row 2 75 52 file.now)))))) (or_else (verdict_of (base_row (base_in file.now 0) ∷ base_differs_row file.now ∷ [])) (rates_worked (request_in file.now) (plan_in file.now)))) }
+{
+    content_rows(file, &request_in(file), &plan_in(file))
+}
+
 // The first row that refuses counts. The length is asked before anything is read, although any bytes could be: the compiler then
 // knows that the words are there, and leaves out the test of each.
 pub fn check(file: &[u8]) -> Verdict
     ensures { result ≡ check_verdict file.now }
 {
     frame_rows(file, &[1, 2, 3])?;
-    content_rows(file, &request_in(file), &plan_in(file))
+    read_rows(file)
 }

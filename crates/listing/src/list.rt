@@ -1,5 +1,5 @@
 // The call that lists the plan of a request file.
-ghost use Rattle.std.specs.Prelude.{◌≡◌, ◌≤◌, length, take};
+ghost use Rattle.std.specs.Prelude.{◌≡◌, ◌≤◌, [], length, take};
 ghost use Rattle.texts.specs.Listing.{listing_of, listed, listed_in};
 
 use crate::lines::{Lines, refused_text};
@@ -9,13 +9,13 @@ use planner::plan::plan;
 use switch::verdict::{Cause, Verdict, refused};
 use texts::list::Listed;
 
-// The text for a file.
+// The text for a file. (Handed in and not back: by value it would be cleared three times.)
 #[tactic(auto, using(crate::proofs::Read::read))]
-fn text_of(file: &[u8]) -> Text
-    ensures { result ≡ listing_of file.now }
+fn text_of(file: &[u8], text: &mut Text)
+    requires { text.old ≡ [] }
+    ensures { text.new ≡ listing_of file.now }
 {
     let read = read_request(file);
-    let mut text = Text::new();
     match read.verdict {
         Verdict::Accepted => {
             let answer = plan(read.request);
@@ -23,11 +23,10 @@ fn text_of(file: &[u8]) -> Text
                 request: &read.request,
                 plan: &answer.plan,
             };
-            lines.plan_text(&mut text);
+            lines.plan_text(text);
         }
-        Verdict::Refused(refusal) => refused_text(&mut text, refusal),
+        Verdict::Refused(refusal) => refused_text(text, refusal),
     }
-    text
 }
 
 // Lists the plan of a request file, or the refusal that reading it gives, into the beginning of a buffer.
@@ -37,7 +36,8 @@ pub fn list(file: &[u8], text: &mut [u8]) -> Listed
     ensures text_after { text.new ≡ listed_in file.now text.old }
     ensures length_in_bounds { (result.length ≤ length text.new) × (result.length ≡ length (take result.length text.new)) }
 {
-    let listing = text_of(file);
+    let mut listing = Text::new();
+    text_of(file, &mut listing);
     let bytes = listing.as_bytes();
     let length = bytes.len();
     // (Not files' room_row: the room is for this text, whose length is known only now.)

@@ -1,6 +1,6 @@
 // A text that is being written, piece behind piece, with room for the longest one. (An array with its length: there is no heap,
 // and the model keeps the two together.)
-ghost use Rattle.std.specs.Prelude.{[], ◌∷◌, ◌++◌, ◌≡◌};
+ghost use Rattle.std.specs.Prelude.{[], ◌∷◌, ◌++◌, ◌≡◌, ◌≤◌, length};
 ghost use Rattle.texts.specs.Decimal.{decimal};
 ghost use Rattle.listing.specs.Room.{HasRoom};
 
@@ -35,7 +35,8 @@ impl Text {
     }
 
     pub fn as_bytes(&self) -> &[u8]
-        ensures { result.now ≡ self.now }
+        ensures value { result.now ≡ self.now }
+        ensures room { length result.now ≤ 2144 }
     {
         &self.bytes[..self.len]
     }
@@ -50,6 +51,15 @@ impl Text {
         self.len = end;
     }
 
+    // One byte. (Not `word` of one: as a copy of a slice each digit would be a call, and a listing takes half as long again.)
+    fn put(&mut self, byte: u8)
+        requires { HasRoom self.old (byte ∷ []) }
+        ensures { self.new ≡ self.old ++ (byte ∷ []) }
+    {
+        self.bytes[self.len] = byte;
+        self.len += 1;
+    }
+
     // A number in decimal: what comes before its last digit is the number a tenth as large. By hand and not by `write!`, which
     // would answer an error for the want of room, though room is required here, and whose digits are std's and not those of
     // `decimal`.
@@ -59,11 +69,11 @@ impl Text {
         ensures { self.new ≡ self.old ++ decimal x }
     {
         if x < 10 {
-            self.word(&[b'0' + x as u8]);
+            self.put(b'0' + x as u8);
             return;
         }
         self.number(x / 10);
-        self.word(&[b'0' + (x % 10) as u8]);
+        self.put(b'0' + (x % 10) as u8);
     }
 
     // A number, and the byte that comes after it: a space or a line feed.
@@ -73,6 +83,6 @@ impl Text {
         ensures { self.new ≡ self.old ++ (decimal x ++ (end ∷ [])) }
     {
         self.number(x);
-        self.word(&[end]);
+        self.put(end);
     }
 }

@@ -1,5 +1,5 @@
 -- `check` meets its contract: what the frame refuses is refused, and after it the contents decide.
-use Rattle.std.proofs.Common.{◌∙◌}
+use Rattle.std.proofs.Common.{refl, ◌∙◌}
 use Rattle.files.proofs.Checked.{frame_refuses, content_decides}
 use Rattle.files.proofs.check.check.Goals as goal
 
@@ -9,5 +9,4 @@ returns-in_err-frame_rows c =
 
 pub returns : goal.returns
 returns c =
-    content_decides c.args.file.now c.frame_rows.ensures c.in_ok-frame_rows.ensures c.request_in.ensures c.plan_in.ensures
-    c.content_rows.ensures
+    content_decides c.args.file.now c.frame_rows.ensures c.in_ok-frame_rows.ensures refl refl c.read_rows.ensures
