@@ -22,6 +22,7 @@ use Rattle.checker.proofs.Judged.{rates_heard, plan_within_of_accepted}
 use Rattle.formats.specs.FileRows.{length_row, check_row, kind_row, spare_row}
 use Rattle.formats.specs.RequestFile.{request_in}
 use Rattle.formats.specs.PlanFile.{base_in, plan_in, base_differs_row, plan_file_rows, check_verdict}
+use Rattle.files.specs.Content.{content}
 
 -- Both parts of a row that accepts do.
 parts_accept : (a b : Row) → a.cause ≡ b.cause → row_verdict (joined a b) ≡ Accepted
@@ -88,13 +89,6 @@ module _ (file : List ℕ) (r : Request) (p : Plan) where
         or_else_assoc (or_else (request_verdict r) (row_verdict zeros)) (verdict_of bases) (rates_worked r p),
         or_else_assoc (request_verdict r) (row_verdict zeros) (or_else (verdict_of bases) (rates_worked r p)),
       )
-
--- What is asked of the blocks' contents.
-abbrev pub content : List ℕ → Request → Plan → Verdict
-content file r p =
-    or_else (request_verdict r)
-    (or_else (row_verdict (zeros file r p))
-    (or_else (verdict_of (base_row (base_in file 0) ∷ base_differs_row file ∷ [])) (rates_worked r p)))
 
 pub checked_as_asked : (file : List ℕ)
     → check_verdict file ≡ or_else (verdict_of (frame file)) (content file (request_in file) (plan_in file))

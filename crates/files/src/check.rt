@@ -1,12 +1,8 @@
 // The check of a plan file.
-ghost use Rattle.std.specs.Prelude.{◌≡◌, [], ◌∷◌};
-ghost use Rattle.switch.specs.RequestRows.{request_verdict};
-ghost use Rattle.switch.specs.Rows.{joined, row_verdict, or_else, verdict_of};
-ghost use Rattle.judging.specs.PlanRows.{half_not_zero, base_row};
-ghost use Rattle.worked.specs.Worked.{rates_worked};
-ghost use Rattle.formats.specs.FileRows.{spare_row};
+ghost use Rattle.std.specs.Prelude.{◌≡◌};
 ghost use Rattle.formats.specs.RequestFile.{request_in};
-ghost use Rattle.formats.specs.PlanFile.{base_in, base_differs_row, plan_in, check_verdict};
+ghost use Rattle.formats.specs.PlanFile.{plan_in, check_verdict};
+ghost use Rattle.files.specs.Content.{content};
 
 use crate::format::{base_rows, zeros_row};
 use crate::read::{plan_in, request_in};
@@ -19,7 +15,7 @@ use switch::verdict::Verdict;
 
 // Rows 4 to 15, of a file's blocks and of the request and the plan that were read there.
 fn content_rows(file: &[u8], request: &Request, plan: &Plan) -> Verdict
-    ensures { result ≡ or_else (request_verdict request.now) (or_else (row_verdict (joined (spare_row 0 83 44 file.now) (joined (half_not_zero request.now plan.now 0) (joined (spare_row 1 75 52 file.now) (joined (half_not_zero request.now plan.now 1) (spare_row 2 75 52 file.now)))))) (or_else (verdict_of (base_row (base_in file.now 0) ∷ base_differs_row file.now ∷ [])) (rates_worked request.now plan.now))) }
+    ensures { result ≡ content file.now request.now plan.now }
 {
     check_request(*request)?;
     zeros_row(file, request, plan)?;
@@ -30,7 +26,7 @@ fn content_rows(file: &[u8], request: &Request, plan: &Plan) -> Verdict
 // The same, of the request and the plan that the file holds. (They are read here and not in `check`, which would then clear the
 // room for both before it asks for the length.)
 fn read_rows(file: &[u8]) -> Verdict
-    ensures { result ≡ or_else (request_verdict (request_in file.now)) (or_else (row_verdict (joined (spare_row 0 83 44 file.now) (joined (half_not_zero (request_in file.now) (plan_in file.now) 0) (joined (spare_row 1 75 52 file.now) (joined (half_not_zero (request_in file.now) (plan_in file.now) 1) (spare_row 2 75 52 file.now)))))) (or_else (verdict_of (base_row (base_in file.now 0) ∷ base_differs_row file.now ∷ [])) (rates_worked (request_in file.now) (plan_in file.now)))) }
+    ensures { result ≡ content file.now (request_in file.now) (plan_in file.now) }
 {
     content_rows(file, &request_in(file), &plan_in(file))
 }

@@ -51,7 +51,7 @@ impl Text {
         self.len = end;
     }
 
-    // One byte. (Not `word` of one: as a copy of a slice each digit would be a call, and a listing takes half as long again.)
+    // One byte. (Not `word` of one, by which each digit would be a call that copies a slice.)
     fn put(&mut self, byte: u8)
         requires { HasRoom self.old (byte ∷ []) }
         ensures { self.new ≡ self.old ++ (byte ∷ []) }

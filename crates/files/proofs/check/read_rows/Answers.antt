@@ -1,6 +1,6 @@
 -- `read_rows` meets its contract: the numbers are those that were read.
 use Rattle.std.proofs.Common.{◌∙◌, ap₂}
-use Rattle.files.proofs.Checked.{content}
+use Rattle.files.specs.Content.{content}
 use Rattle.files.proofs.check.read_rows.Goals as goal
 
 pub returns : goal.returns

@@ -1,0 +1,2 @@
+-- What the checks of files say on the way.
+pub mod Content
